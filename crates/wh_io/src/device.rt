@@ -1,0 +1,81 @@
+ghost use Rattle.std.specs.Prelude.{◌≡◌, ℕ, ◌<◌, ◌≤◌, List, [], length, take, IfOk, OnErr};
+ghost use Rattle.std.specs.declared.option.Option.{Option};
+ghost use Rattle.wh_io.specs.Device.{Consumed, Appended, IsAtEnd, HasCause};
+
+use thiserror::Error;
+
+/// The one fault of a device.
+#[derive(Clone, Copy, Debug, PartialEq, Eq, Error)]
+#[error("the device failed")]
+pub struct Failed;
+
+/// Where bytes come from.
+///
+/// A source counts its faults, so that a caller can tell afterwards whether one came.
+pub trait Source {
+    // The bytes that are left to read, where the source tells them.
+    ghost left: { Self → Option (List ℕ) };
+
+    // How often it failed.
+    ghost fault_count: { Self → ℕ };
+
+    /// How often the source failed so far. The count stays at `u64::MAX` once it is there.
+    fn faults(&self) -> u64
+        ensures { result ≡ fault_count self.now };
+
+    /// Puts the next bytes at the front of `into`, which isn't empty, and answers how many.
+    ///
+    /// 0 says that no bytes are left. `Failed` says that the source failed in this call, so that
+    /// its count went up, unless it stood at `u64::MAX`. The bytes left are then as before, so the
+    /// caller may read again, and `into` may hold anything.
+    fn read(&mut self, into: &mut [u8]) -> Result<usize, Failed>
+        requires { 0 < length into.old }
+        ensures bound { IfOk result (λ n. n ≤ length into.new) }
+
+        // The bytes given are the first of those left, and the others are left. A source that no
+        // longer tells its bytes never tells them again.
+        ensures bytes { IfOk result (λ n.
+            Consumed (left self.old) (left self.new) (take n into.new)) }
+        ensures end { IfOk result (λ n. n ≡ 0 → IsAtEnd (left self.new)) }
+        ensures kept { OnErr result (Consumed (left self.old) (left self.new) []) }
+        ensures cause { HasCause (fault_count self.old) (fault_count self.new) result };
+}
+
+/// Where bytes go.
+///
+/// A sink counts its faults, so that a caller can tell afterwards whether one came.
+pub trait Sink {
+    // The bytes that the sink holds, where it tells them.
+    ghost held: { Self → Option (List ℕ) };
+
+    // How often it failed.
+    ghost fault_count: { Self → ℕ };
+
+    /// How often the sink failed so far. The count stays at `u64::MAX` once it is there.
+    fn faults(&self) -> u64
+        ensures { result ≡ fault_count self.now };
+
+    /// Takes bytes from the front of `piece`, and answers how many: at least one, unless `piece`
+    /// is empty.
+    ///
+    /// `Failed` says that the sink failed in this call, so that its count went up, unless it stood
+    /// at `u64::MAX`. It then took nothing.
+    fn write(&mut self, piece: &[u8]) -> Result<usize, Failed>
+        ensures bound { IfOk result (λ n. n ≤ length piece.now) }
+        ensures some { IfOk result (λ n. 0 < length piece.now → 0 < n) }
+
+        // The bytes held are those before, and then the bytes taken. A sink that no longer tells
+        // its bytes never tells them again.
+        ensures bytes { IfOk result (λ n.
+            Appended (held self.old) (held self.new) (take n piece.now)) }
+        ensures kept { OnErr result (Appended (held self.old) (held self.new) []) }
+        ensures cause { HasCause (fault_count self.old) (fault_count self.new) result };
+
+    /// Sends on what the sink keeps back. The bytes held stay.
+    ///
+    /// `Failed` says that the sink failed in this call, so that its count went up, unless it stood
+    /// at `u64::MAX`.
+    fn flush(&mut self) -> Result<(), Failed>
+        ensures bytes { Appended (held self.old) (held self.new) [] }
+        ensures cause { HasCause (fault_count self.old) (fault_count self.new) result };
+}

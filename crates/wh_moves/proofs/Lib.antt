@@ -1,0 +1,2 @@
+pub mod ActedWords
+pub mod CutLetters

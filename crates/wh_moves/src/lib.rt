@@ -1,0 +1,12 @@
+//! Moves of a free group, and how they act on tuples.
+#![tactic(auto)]
+
+mod action;
+mod image_words;
+mod letter_images;
+mod moves;
+
+pub use action::{ActError, act, act_into, acted_length};
+pub use image_words::Images;
+pub use letter_images::images;
+pub use moves::{Kind, Move};

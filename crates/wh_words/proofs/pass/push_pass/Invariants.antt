@@ -1,0 +1,11 @@
+use Rattle.std.proofs.Common.{◌≡◌, ◌++◌, ◌-◌, length, get_or, take}
+use Rattle.wh_words.specs.LetterSets.{in_set}
+use Rattle.wh_words.specs.Passes.{pass, last_or}
+use Rattle.wh_words.proofs.pass.push_pass.Given as goal
+
+abbrev pub invariant-loop-x : goal.invariant-loop-x
+invariant-loop-x l = record {
+  items : l.out.items ≡ l.initial.out.items ++ pass l.mult (in_set l.set) (get_or l.word (length l.word - 1) 0) (take l.x-index l.word);
+  before : l.before ≡ last_or l.mult (in_set l.set) (get_or l.word (length l.word - 1) 0) (take l.x-index l.word);
+  capacity : l.out.capacity ≡ l.initial.out.capacity;
+}

@@ -1,0 +1,15 @@
+-- The theory, in the order of a textbook.
+pub mod Letters
+pub mod LetterSets
+pub mod Words
+pub mod CyclicWords
+pub mod Tuples
+pub mod Moves
+pub mod Images
+pub mod Action
+pub mod Traces
+pub mod Laws
+-- How this crate keeps and writes words.
+pub mod Storage
+pub mod Passes
+pub mod Rounds

@@ -1,0 +1,29 @@
+//! Letters, words, cyclic words and tuples of a free group, with the definitions that every crate above cites.
+#![tactic(auto)]
+
+mod cyclic_word;
+mod error;
+mod inline;
+pub mod laws;
+mod letter;
+mod letter_set;
+mod list;
+mod pass;
+mod rank;
+mod rotation;
+mod steps;
+mod storage;
+mod tuple;
+mod tuple_order;
+mod word;
+
+pub use cyclic_word::CyclicWord;
+pub use error::OutOfMemory;
+pub use letter::Letter;
+pub use letter_set::LetterSet;
+pub use list::List;
+pub use pass::cut_image_length;
+pub use rank::Rank;
+pub use steps::Steps;
+pub use tuple::Tuple;
+pub use word::Word;

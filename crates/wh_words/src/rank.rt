@@ -1,0 +1,45 @@
+//! The rank of a free group.
+ghost use Rattle.std.specs.Prelude.{◌≡◌, ◌<◌, ◌≤◌, ◌↔◌, ◌⊎◌, IsNone, IfSome};
+
+use std::marker::Model;
+
+/// The rank of a free group, from 1 to 26. Contracts see the number.
+#[derive(Clone, Copy, PartialEq, Eq, PartialOrd, Ord, Hash, Debug)]
+pub struct Rank {
+    number: u8,
+}
+
+impl Model for Rank {
+    ghost use Rattle.std.specs.Prelude.{ℕ, ◌<◌, ◌≤◌};
+
+    ghost Value = { ℕ };
+
+    ghost view = { λ r. r.number };
+
+    ghost inverse = { λ n. record { number = n } };
+
+    ghost invariant = { λ r. (0 < r.number) × (r.number ≤ 26) };
+}
+
+impl Rank {
+    /// The rank `n`, or None exactly where `n` is 0 or above 26.
+    pub fn new(n: u8) -> Option<Rank>
+        ensures none { IsNone result ↔ ((n ≡ 0) ⊎ (26 < n)) }
+        ensures some { IfSome result (λ r. r ≡ n) }
+    {
+        if n == 0 || n > 26 {
+            None
+        } else {
+            Some(Rank { number: n })
+        }
+    }
+
+    /// The rank as a number.
+    pub fn get(self) -> u8
+        ensures same { result ≡ self }
+        ensures least { 0 < self }
+        ensures greatest { self ≤ 26 }
+    {
+        self.number
+    }
+}

@@ -1,0 +1,296 @@
+//! Tuples of cyclic words.
+ghost use Rattle.std.specs.Prelude.{◌≡◌, ◌≢◌, ◌+◌, ◌<◌, ◌≤◌, [], ◌∷◌, ◌++◌, length, map, slice_index_or, IfOk, IsOk};
+ghost use Rattle.std.specs.List.{All, sum_by};
+ghost use Rattle.std.specs.Bool.{MatchBool};
+ghost use Rattle.wh_words.specs.Words.{IsOfRank};
+ghost use Rattle.wh_words.specs.CyclicWords.{cyclic_word, IsCyclicallyReduced};
+ghost use Rattle.wh_words.specs.Tuples.{tuple_cmp, tuple_length, IsRoomed, own_room, without_words, with_word, HasLetterRoom, HasWordRoom};
+ghost use Rattle.wh_words.specs.Storage.{EndsRise, split_at, start_at};
+ghost use Rattle.wh_words.specs.Moves.{IsCut, IsKind};
+ghost use Rattle.wh_words.specs.Action.{substitute};
+ghost use Rattle.wh_words.specs.Moves.Kind.{swap, invert, cut};
+
+use crate::cyclic_word::{CyclicWord, strip_ends};
+use crate::error::OutOfMemory;
+use crate::inline::INLINE;
+use crate::letter::Letter;
+use crate::letter_set::LetterSet;
+use crate::pass::push_pass;
+use crate::rank::Rank;
+use crate::storage::{INLINE_WORDS, end_word, push_inverted, push_letters, push_swapped};
+use crate::word::Word;
+use smallvec::SmallVec;
+use std::alloc::Global;
+use std::cmp::Ordering;
+use std::marker::Model;
+
+/// A list of cyclic words of one rank. Up to 16 letters in up to 4 words it keeps in itself.
+#[derive(Drop)]
+pub struct Tuple {
+    rank: Rank,
+    letters: SmallVec<Letter, INLINE>,
+    ends: SmallVec<u16, INLINE_WORDS>,
+    room: usize,
+    word_room: usize,
+}
+
+impl Model for Tuple {
+    ghost use Rattle.wh_words.specs.Tuples as spec;
+    ghost use Rattle.wh_words.specs.Storage.{tuple_of, IsStored};
+
+    ghost Value = { spec.Tuple };
+
+    ghost view = { λ t. tuple_of t.rank t.ends.items t.letters.items t.room t.word_room };
+
+    ghost invariant = { λ t. IsStored t.rank t.ends.items t.letters.items t.room t.word_room t.letters.capacity t.ends.capacity };
+}
+
+/// Where the word at a place begins.
+#[tactic(auto, using(crate::proofs::StoredWords::start_more))]
+fn start_of(ends: &[u16], place: usize) -> usize
+    requires { place ≤ length ends.now }
+    ensures { result ≡ start_at 0 ends.now place }
+{
+    if place == 0 { 0 } else { ends[place - 1] as usize }
+}
+
+/// The word at a place.
+#[tactic(auto, using(crate::proofs::StoredWords::split_at_get, crate::proofs::StoredWords::ends_rise_at))]
+fn word_in<'a>(letters: &'a [Letter], ends: &[u16], place: usize) -> &'a [Letter]
+    requires laid { EndsRise 0 ends.now (length letters.now) }
+    requires within { place < length ends.now }
+    ensures { result.now ≡ slice_index_or (split_at 0 ends.now letters.now) place [] }
+{
+    &letters[start_of(ends, place)..ends[place] as usize]
+}
+
+/// The letters of all words.
+fn total_length(words: &[CyclicWord]) -> usize
+    requires { sum_by length words.now ≤ 4096 }
+    ensures { result ≡ sum_by length words.now }
+{
+    let mut total = 0;
+    for word in words {
+        total += word.letters().len();
+    }
+    total
+}
+
+/// The letters of the cyclic words of all words.
+fn total_core(words: &[Word]) -> usize
+    requires { sum_by length (map cyclic_word words.now) ≤ 4096 }
+    ensures { result ≡ sum_by length (map cyclic_word words.now) }
+{
+    let mut total = 0;
+    for word in words {
+        total += strip_ends(word.letters()).len();
+    }
+    total
+}
+
+impl Tuple {
+    /// The tuple of the cyclic words of these words, with room for itself alone.
+    pub fn of(alloc: Global, rank: Rank, words: &[Word]) -> Result<Tuple, OutOfMemory>
+        requires of_rank { All (IsOfRank rank) words.now }
+        requires few { length words.now ≤ 64 }
+        requires short { sum_by length (map cyclic_word words.now) ≤ 4096 }
+        ensures made { IfOk result (λ t. t ≡ own_room (record { rank = rank; words = map cyclic_word words.now })) }
+        ensures succeeds { length words.now ≤ 4 → sum_by length (map cyclic_word words.now) ≤ 16 → IsOk result }
+    {
+        let mut made = Tuple::with_room(alloc, rank, words.len(), total_core(words))?;
+        for word in words {
+            made.push_word(strip_ends(word.letters()));
+        }
+        Ok(made)
+    }
+
+    /// The tuple of these words, with room for itself alone.
+    #[tactic(auto, using(crate::proofs::MadeOfCyclic::made_start, crate::proofs::MadeOfCyclic::made_own))]
+    pub fn of_cyclic(alloc: Global, rank: Rank, words: &[CyclicWord]) -> Result<Tuple, OutOfMemory>
+        requires of_rank { All (IsOfRank rank) words.now }
+        requires few { length words.now ≤ 64 }
+        requires short { sum_by length words.now ≤ 4096 }
+        ensures made { IfOk result (λ t. t ≡ own_room (record { rank = rank; words = words.now })) }
+        ensures succeeds { length words.now ≤ 4 → sum_by length words.now ≤ 16 → IsOk result }
+    {
+        let mut made = Tuple::with_room(alloc, rank, words.len(), total_length(words))?;
+        for word in words {
+            made.push_word(word.letters());
+        }
+        Ok(made)
+    }
+
+    /// The order of two tuples: by rank, then word by word.
+    #[tactic(auto, using(crate::proofs::MadeOfCyclic::words_equal, crate::proofs::MadeOfCyclic::words_first, crate::proofs::MadeOfCyclic::words_start, crate::proofs::MadeOfCyclic::words_end))]
+    pub fn compared(&self, other: &Tuple) -> Ordering
+        ensures { result ≡ tuple_cmp self.now.plain other.now.plain }
+    {
+        let ranks = self.rank().get().cmp(&other.rank().get());
+        if ranks != Ordering::Equal {
+            return ranks;
+        }
+        let mut place = 0;
+        while place < self.count() && place < other.count() {
+            let words = self.word(place).cmp(&other.word(place));
+            if words != Ordering::Equal {
+                return words;
+            }
+            place += 1;
+        }
+        self.count().cmp(&other.count())
+    }
+
+    /// A tuple without words, with room for so many words and letters.
+    #[tactic(auto, using(crate::proofs::Storing::empty_tuple))]
+    pub fn with_room(alloc: Global, rank: Rank, words: usize, letters: usize) -> Result<Tuple, OutOfMemory>
+        requires few { words ≤ 64 }
+        requires short { letters ≤ 4096 }
+        ensures made { IfOk result (λ t. t ≡ record { plain = record { rank = rank; words = [] }; room = letters; word_room = words }) }
+        ensures succeeds { words ≤ 4 → letters ≤ 16 → IsOk result }
+    {
+        Ok(Tuple {
+            rank,
+            letters: SmallVec::with_capacity(alloc, letters)?,
+            ends: SmallVec::with_capacity(alloc, words)?,
+            room: letters,
+            word_room: words,
+        })
+    }
+
+    pub fn rank(&self) -> Rank
+        ensures rank { result ≡ self.now.plain.rank }
+        ensures roomed { IsRoomed self.now }
+    {
+        self.rank
+    }
+
+    #[tactic(auto, using(crate::proofs::StoredWords::split_at_length))]
+    pub fn count(&self) -> usize
+        ensures count { result ≡ length self.now.plain.words }
+        ensures roomed { IsRoomed self.now }
+    {
+        self.ends.len()
+    }
+
+    #[tactic(auto, using(crate::proofs::StoredWords::split_at_total))]
+    pub fn length(&self) -> u32
+        ensures length { result ≡ tuple_length self.now.plain }
+        ensures roomed { IsRoomed self.now }
+    {
+        self.letters.len() as u32
+    }
+
+    #[tactic(auto, using(crate::proofs::StoredWords::split_at_length))]
+    pub fn word(&self, place: usize) -> &[Letter]
+        requires { place < length self.now.plain.words }
+        ensures value { result.now ≡ slice_index_or self.now.plain.words place [] }
+        ensures roomed { IsRoomed self.now }
+    {
+        word_in(&self.letters, &self.ends, place)
+    }
+
+    pub fn room(&self) -> usize
+        ensures { result ≡ self.now.room }
+    {
+        self.room
+    }
+
+    pub fn word_room(&self) -> usize
+        ensures { result ≡ self.now.word_room }
+    {
+        self.word_room
+    }
+
+    /// An equal tuple, with room for itself alone.
+    #[tactic(auto, using(crate::proofs::StoredWords::split_at_length, crate::proofs::StoredWords::split_at_total))]
+    pub fn copy(&self, alloc: Global) -> Result<Tuple, OutOfMemory>
+        ensures same { IfOk result (λ t. t ≡ own_room self.now.plain) }
+        ensures succeeds { length self.now.plain.words ≤ 4 → tuple_length self.now.plain ≤ 16 → IsOk result }
+    {
+        let letters = SmallVec::from_slice(alloc, &self.letters)?;
+        let ends = SmallVec::from_slice(alloc, &self.ends)?;
+        let room = letters.len();
+        let word_room = ends.len();
+        Ok(Tuple {
+            rank: self.rank,
+            letters,
+            ends,
+            room,
+            word_room,
+        })
+    }
+
+    /// Takes all words out, and keeps the room.
+    #[tactic(auto, using(crate::proofs::Storing::empty_tuple))]
+    pub fn clear(&mut self, rank: Rank)
+        ensures { self.new ≡ without_words rank self.old }
+    {
+        self.rank = rank;
+        self.letters.clear();
+        self.ends.clear();
+    }
+
+    /// Writes the image of a cyclic word under a cut after the words.
+    pub fn push_cut(&mut self, word: &[Letter], mult: Letter, set: LetterSet)
+        requires own { cyclic_word word.now ≡ word.now }
+        requires of_rank { IsOfRank self.old.plain.rank word.now }
+        requires is_cut { IsCut self.old.plain.rank mult set }
+        requires letters { HasLetterRoom self.old (length (cyclic_word (substitute (cut mult set) word.now))) }
+        requires place { HasWordRoom self.old }
+        ensures { self.new ≡ with_word self.old (cyclic_word (substitute (cut mult set) word.now)) }
+    {
+        let start = self.letters.len();
+        push_pass(&mut self.letters, word, mult, set);
+        end_word(&mut self.letters, &mut self.ends, start);
+    }
+
+    /// Writes the image of a cyclic word under a swap after the words.
+    pub fn push_swap(&mut self, word: &[Letter], k: u8)
+        requires own { cyclic_word word.now ≡ word.now }
+        requires of_rank { IsOfRank self.old.plain.rank word.now }
+        requires is_swap { IsKind self.old.plain.rank (swap k) }
+        requires within { self.old.plain.rank ≤ 26 }
+        requires letters { HasLetterRoom self.old (length (cyclic_word (substitute (swap k) word.now))) }
+        requires place { HasWordRoom self.old }
+        ensures { self.new ≡ with_word self.old (cyclic_word (substitute (swap k) word.now)) }
+    {
+        let start = self.letters.len();
+        push_swapped(&mut self.letters, word, k);
+        end_word(&mut self.letters, &mut self.ends, start);
+    }
+
+    /// Writes the image of a cyclic word under an inversion after the words.
+    pub fn push_invert(&mut self, word: &[Letter], k: u8)
+        requires own { cyclic_word word.now ≡ word.now }
+        requires of_rank { IsOfRank self.old.plain.rank word.now }
+        requires is_invert { IsKind self.old.plain.rank (invert k) }
+        requires letters { HasLetterRoom self.old (length (cyclic_word (substitute (invert k) word.now))) }
+        requires place { HasWordRoom self.old }
+        ensures { self.new ≡ with_word self.old (cyclic_word (substitute (invert k) word.now)) }
+    {
+        let start = self.letters.len();
+        push_inverted(&mut self.letters, word, k);
+        end_word(&mut self.letters, &mut self.ends, start);
+    }
+
+    /// Writes the cyclic word of a cyclically reduced word after the words.
+    pub fn push_word(&mut self, word: &[Letter])
+        requires reduced { IsCyclicallyReduced word.now }
+        requires of_rank { IsOfRank self.old.plain.rank word.now }
+        requires letters { HasLetterRoom self.old (length (cyclic_word word.now)) }
+        requires place { HasWordRoom self.old }
+        ensures { self.new ≡ with_word self.old (cyclic_word word.now) }
+    {
+        let start = self.letters.len();
+        push_letters(&mut self.letters, word);
+        end_word(&mut self.letters, &mut self.ends, start);
+    }
+
+    /// Whether the ranks and the words are the same.
+    #[tactic(auto, using(crate::proofs::SameTuples::same_match))]
+    pub fn same(&self, other: &Tuple) -> bool
+        ensures { MatchBool result (self.now.plain ≡ other.now.plain) (self.now.plain ≢ other.now.plain) }
+    {
+        self.compared(other).is_eq()
+    }
+}
