@@ -7,6 +7,7 @@ pub mod Tuples
 pub mod Moves
 pub mod Images
 pub mod Action
+pub mod Edges
 pub mod Traces
 pub mod Laws
 -- How this crate keeps and writes words.
