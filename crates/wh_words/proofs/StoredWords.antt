@@ -1,10 +1,10 @@
 -- Words that lie in a row.
 use Rattle.std.proofs.Common.{◌≡◌, ℕ, zero, suc, ◌+◌, ◌-◌, ◌*◌, ◌<◌, ◌≤◌, List, [], ◌∷◌, ◌++◌, length, get_or, take, drop, map, slice_range, refl, sym, ap, ◌∙◌, subst, arith, ◌==◌, length-append, length-drop, length-take}
-use Rattle.std.proofs.lemmas.List.{length-map, take_all, drop_at, take-append-le, drop-append-le, take_more, map_more}
+use Rattle.std.proofs.lemmas.List.{length-map, take_all, drop_all, drop-drop, drop_at, take-append-le, take-append-drop, drop-append-le, take_more, map_more}
 use Rattle.std.proofs.lemmas.List.Elements.{All-nil, All-cons, All-head, All-tail, All-append, All-take, All-drop, All-map}
 use Rattle.std.proofs.lemmas.List.Sums.{sum_by-cons}
 use Rattle.std.proofs.lemmas.Bool.{cond_both}
-use Rattle.std.specs.List.{All, sum_by}
+use Rattle.std.specs.List.{All, sum_by, concat}
 use Rattle.wh_words.specs.Words.{put_before, free_reduction, IsOfRank}
 use Rattle.wh_words.specs.Letters.{inverse_letter}
 use Rattle.wh_words.specs.CyclicWords.{strip_times, cyclic_core, inner, ends_cancel, cyclic_reduction, cyclic_word, rotate, IsLeastRotation}
@@ -67,6 +67,19 @@ split_at-sum s (e ∷ es) xs l =
 
 pub split_at_total : (es xs : List ℕ) → EndsRise 0 es (length xs) → sum_by length (split_at 0 es xs) ≡ length xs
 split_at_total es xs l = omega (arith, split_at-sum 0 es xs l)
+
+range-rest : (xs : List ℕ) (s e : ℕ) → s ≤ e → slice_range xs s e ++ drop e xs ≡ drop s xs
+range-rest xs s e h =
+    let whole : s + (e - s) ≡ e = omega arith in
+    ap (λ n. slice_range xs s e ++ drop n xs) (sym whole) ∙ ap (λ v. slice_range xs s e ++ v) (sym (drop-drop (e - s) s xs)) ∙ take-append-drop (e - s) (drop s xs)
+
+split_at-concat : (s : ℕ) (es xs : List ℕ) → EndsRise s es (length xs) → concat (split_at s es xs) ≡ drop s xs
+split_at-concat s [] xs l = sym (drop_all s xs (omega (arith, l)))
+split_at-concat s (e ∷ es) xs l = ap (λ v. slice_range xs s e ++ v) (split_at-concat e es xs l.1) ∙ range-rest xs s e l.0
+
+-- The words together are the letters.
+pub split_at_concat : (es xs : List ℕ) → EndsRise 0 es (length xs) → concat (split_at 0 es xs) ≡ xs
+split_at_concat es xs l = split_at-concat 0 es xs l
 
 -- ---- a cyclic word has letters of its word alone
 put_before-of_rank : (n x : ℕ) (w : List ℕ) → x < 2 * n → IsOfRank n w → IsOfRank n (put_before x w)

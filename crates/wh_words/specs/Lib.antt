@@ -13,4 +13,5 @@ pub mod Laws
 -- How this crate keeps and writes words.
 pub mod Storage
 pub mod Passes
+pub mod TupleTies
 pub mod Rounds

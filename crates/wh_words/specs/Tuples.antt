@@ -1,6 +1,7 @@
 -- Tuples of cyclic words, after Lyndon and Schupp, I.4.
 use Rattle.std.specs.Prelude.{◌≡◌, ℕ, ◌+◌, ◌<◌, ◌≤◌, List, [], ◌∷◌, ◌++◌, length, refl}
-use Rattle.std.specs.List.{All, sum_by}
+use Rattle.std.specs.List.{All, sum_by, concat}
+use Rattle.std.specs.Hash.{HashWrites, slice, u8}
 use Rattle.std.specs.Coded.{Coded, code_by, coded×, coded_ℕ, coded_list}
 use Rattle.std.specs.Ordering.{nat_cmp, ordering_then}
 use Rattle.std.specs.Cmp.{IsTotalOrder, on_total, then_total, nat_cmp_total}
@@ -80,3 +81,7 @@ tuple_order s t = tuple_cmp s.plain t.plain
 
 pub tuple_order_total : IsTotalOrder tuple_order
 tuple_order_total = then_total (on_total (λ (t : Tuple). t.plain.rank) nat_cmp_total) (on_total (λ (t : Tuple). t.plain.words) (lists_total nat_list_cmp_total))
+
+-- What a hasher is fed of a tuple: the letters of all its words in one row.
+abbrev pub hash_writes : Tuple → HashWrites
+hash_writes t = slice u8 (concat t.plain.words)

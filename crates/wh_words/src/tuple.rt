@@ -1,6 +1,6 @@
 //! Tuples of cyclic words.
 ghost use Rattle.std.specs.Prelude.{◌≡◌, ◌≢◌, ◌+◌, ◌<◌, ◌≤◌, [], ◌∷◌, ◌++◌, length, map, slice_index_or, IfOk, IsOk};
-ghost use Rattle.std.specs.List.{All, sum_by};
+ghost use Rattle.std.specs.List.{All, sum_by, concat};
 ghost use Rattle.std.specs.Bool.{MatchBool};
 ghost use Rattle.wh_words.specs.Words.{IsOfRank};
 ghost use Rattle.wh_words.specs.CyclicWords.{cyclic_word, IsCyclicallyReduced};
@@ -24,8 +24,10 @@ use std::alloc::Global;
 use std::cmp::Ordering;
 use std::marker::Model;
 
-/// A list of cyclic words of one rank. Up to 16 letters in up to 4 words it keeps in itself.
-#[derive(Drop)]
+/// A tuple of cyclic words of one rank: at most 64 words with at most 4,096 letters in all. Contracts see its data, which
+/// is the rank and the list of its words, and its rooms, which are how many letters and how many words fit in it. Up to
+/// 16 letters in up to 4 words need no memory of their own.
+#[derive(Debug, Drop)]
 pub struct Tuple {
     rank: Rank,
     letters: SmallVec<Letter, INLINE>,
@@ -187,6 +189,15 @@ impl Tuple {
         ensures roomed { IsRoomed self.now }
     {
         word_in(&self.letters, &self.ends, place)
+    }
+
+    /// The letters of all words in one row.
+    #[tactic(auto, using(crate::proofs::StoredWords::split_at_concat))]
+    pub fn letters(&self) -> &[Letter]
+        ensures row { result.now ≡ concat self.now.plain.words }
+        ensures roomed { IsRoomed self.now }
+    {
+        self.letters.as_slice()
     }
 
     pub fn room(&self) -> usize

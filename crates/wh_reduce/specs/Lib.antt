@@ -1,0 +1,2 @@
+-- The definitions of the theory, for the crates above.
+pub use Rattle.wh_words.specs.Traces

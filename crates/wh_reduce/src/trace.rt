@@ -1,0 +1,37 @@
+//! The trace of a tuple.
+ghost use Rattle.std.specs.Prelude.{IfOk};
+ghost use Rattle.wh_words.specs.Traces.{IsFlat, IsTrace};
+
+use crate::step::shorten;
+use std::alloc::Global;
+use std::mem;
+use wh_moves::{Move, act_into};
+use wh_words::{List, OutOfMemory, Tuple};
+
+/// The moves that shorten a tuple, first to last, and the tuple that they end at.
+#[derive(Debug, Drop)]
+pub struct Trace {
+    pub moves: List<Move>,
+    pub end: Tuple,
+}
+
+/// The trace of a tuple: its step, the step of the tuple after it, and so on, until the tuple is flat (Lyndon and
+/// Schupp, I.4). It takes memory for two tuples and the list of moves.
+#[tactic(auto, using(crate::proofs::Traced::traced_start, crate::proofs::Traced::traced_step, crate::proofs::Traced::traced_end))]
+pub fn reduce(alloc: Global, tuple: &Tuple) -> Result<Trace, OutOfMemory>
+    ensures trace { IfOk result (λ r. IsTrace tuple.now.plain r.moves r.end.plain) }
+    ensures flat { IfOk result (λ r. IsFlat r.end.plain) }
+{
+    let mut end = tuple.copy(alloc)?;
+    let mut spare = tuple.copy(alloc)?;
+    let mut moves = Vec::new(alloc);
+    while let Some(m) = shorten(&end) {
+        act_into(&end, &m, &mut spare);
+        mem::swap(&mut end, &mut spare);
+        moves.push(m)?;
+    }
+    Ok(Trace {
+        moves: List::of(moves),
+        end,
+    })
+}
