@@ -84,10 +84,10 @@ fn pass_length(word: &[Letter], mult: Letter, set: LetterSet) -> u32
 {
     let mut total = 0;
     if let Some(last) = word.last() {
-        let mut before = *last;
+        let mut previous = *last;
         for x in word {
-            total += junction_length(before, *x, mult, set) + kept_length(*x, mult, set);
-            before = *x;
+            total += junction_length(previous, *x, mult, set) + kept_length(*x, mult, set);
+            previous = *x;
         }
     }
     total
