@@ -1,0 +1,156 @@
+-- Reading letters and words one after the other.
+use Rattle.std.proofs.Common.{◌≡◌, ℕ, suc, ◌+◌, ◌*◌, ◌<◌, ◌≤◌, ltb, Bool, true, false, cond, List, [], ◌∷◌, ◌++◌, length, map, get_or, drop, sym, ap, ◌∙◌, refl, subst, arith, None, Some, append-nil, append_assoc, Result, Ok, Err}
+use Rattle.std.specs.Prelude.{codes}
+use Rattle.std.specs.declared.option.Option.{Option}
+use Rattle.std.specs.List.{All, sum_by}
+use Rattle.std.proofs.lemmas.List.{drop_more, drop_all}
+use Rattle.std.proofs.lemmas.List.Elements.{All-nil, All-cons, All-head, All-tail}
+use Rattle.std.proofs.lemmas.List.Sums.{sum_by-cons}
+use Rattle.std.proofs.lemmas.Bool.Decides.{nat_tests}
+use Rattle.std.proofs.lemmas.Bool.{cond-false}
+use Rattle.wh_words.specs.Words.{free_reduction, IsOfRank}
+use Rattle.wh_words.specs.CyclicWords.{cyclic_word}
+use Rattle.wh_words.proofs.FreeReduction.{free_reduction-length}
+use Rattle.wh_words.proofs.StoredWords.{free_reduction-of_rank, cyclic_word-length}
+use Rattle.wh_words.proofs.Rotations.{cyclic_word-free_reduction}
+use Rattle.wh_text.specs.declared.read_error.ReadError.{ReadError}
+use Rattle.wh_text.specs.declared.read_error.ReadError.TheVariants as errors
+use Rattle.wh_text.specs.Lines.{Field}
+use Rattle.wh_text.specs.Scans.{bytes_within}
+use Rattle.wh_text.specs.Readings.{◌>>=◌, Refuses}
+use Rattle.wh_text.specs.Spellings.{are, letter_of, letter_at, letters_at, word_at}
+use Rattle.wh_text.specs.TupleLines.{words_at, items_at, short_tuple}
+
+-- what was read so far, before what reading the rest gives
+abbrev pub with_front : {A : Type 0} → List A → Result (List A) ReadError → Result (List A) ReadError
+with_front front read = read >>= λ xs. Ok (front ++ xs)
+
+pub front_more : {A : Type 0} (front : List A) (x : A) (r : Result (List A) ReadError) → with_front (front ++ x ∷ []) r ≡ with_front front (r >>= λ xs. Ok (x ∷ xs))
+front_more front x (Ok xs) = ap (λ v. Ok v) (append_assoc front (x ∷ []) xs)
+front_more front x (Err e) = refl
+
+pub bind_ok : {A B : Type 0} (r : Result A ReadError) (f : A → Result B ReadError) (y : B) → (r >>= f) ≡ Ok y → (x : A) × (r ≡ Ok x) × (f x ≡ Ok y)
+bind_ok (Ok x) f y e = (x, refl, e)
+bind_ok (Err d) f y e = absurd (cc)
+
+pub ok_is : {A : Type 0} (x y : A) → ◌≡◌ {A = Result A ReadError} (Ok x) (Ok y) → x ≡ y
+ok_is x y e = cc
+
+-- ---- letters
+letters_step : (n l c : ℕ) (bs : List ℕ) (i b : ℕ) → i < length bs → b ≡ get_or bs i b →
+    letters_at n l c (drop i bs) ≡ (letter_at l c (letter_of n b) >>= λ x. letters_at n l (c + 1) (drop (i + 1) bs) >>= λ xs. Ok (x ∷ xs))
+unfolding letters_at
+letters_step n l c bs i b lt is =
+    ap (letters_at n l c) (drop_more bs i b lt)
+    ∙ ap (λ d. letter_at l c (letter_of n d) >>= λ x. letters_at n l (c + 1) (drop (i + 1) bs) >>= λ xs. Ok (x ∷ xs)) (sym is)
+
+pub letters_more : (n l c : ℕ) (bs out : List ℕ) (i b x at : ℕ) → i < length bs → b ≡ get_or bs i b → Some x ≡ letter_of n b →
+    with_front out (letters_at n l at (drop i bs)) ≡ letters_at n l c bs → with_front (out ++ x ∷ []) (letters_at n l (at + 1) (drop (i + 1) bs)) ≡ letters_at n l c bs
+letters_more n l c bs out i b x at lt is e h =
+    front_more out x (letters_at n l (at + 1) (drop (i + 1) bs))
+    ∙ ap (λ o. with_front out (letter_at l at o >>= λ x. letters_at n l (at + 1) (drop (i + 1) bs) >>= λ xs. Ok (x ∷ xs))) e
+    ∙ sym (ap (with_front out) (letters_step n l at bs i b lt is)) ∙ h
+
+pub letters_none : (n l c : ℕ) (bs out : List ℕ) (i b at : ℕ) → i < length bs → b ≡ get_or bs i b → None ≡ letter_of n b →
+    with_front out (letters_at n l at (drop i bs)) ≡ letters_at n l c bs → letters_at n l c bs ≡ Err (errors.BadLetter l at)
+letters_none n l c bs out i b at lt is e h =
+    sym h ∙ ap (with_front out) (letters_step n l at bs i b lt is)
+    ∙ sym (ap (λ o. with_front out (letter_at l at o >>= λ x. letters_at n l (at + 1) (drop (i + 1) bs) >>= λ xs. Ok (x ∷ xs))) e)
+
+pub letters_end : (n l c : ℕ) (bs out : List ℕ) (i at : ℕ) → length bs ≤ i → with_front out (letters_at n l at (drop i bs)) ≡ letters_at n l c bs → letters_at n l c bs ≡ Ok out
+unfolding letters_at
+letters_end n l c bs out i at le h = sym h ∙ ap (λ r. with_front out (letters_at n l at r)) (drop_all i bs le) ∙ ap (λ v. Ok v) (append-nil out)
+
+letter_small : (n b x : ℕ) → n ≤ 26 → letter_of n b ≡ Some x → x < 2 * n
+letter_small n b x h e = grind (arith, nat_tests)
+
+letter_some : (n l c : ℕ) (o : Option ℕ) (x : ℕ) → letter_at l c o ≡ Ok x → o ≡ Some x
+letter_some n l c None x e = absurd (cc)
+letter_some n l c (Some y) x e = ap (λ v. Some v) (ok_is y x e)
+
+pub letters_rank : (n l c : ℕ) (bs xs : List ℕ) → n ≤ 26 → letters_at n l c bs ≡ Ok xs → IsOfRank n xs × (length xs ≡ length bs)
+unfolding letters_at
+letters_rank n l c [] xs h e = subst (λ (v : List ℕ). IsOfRank n v × (length v ≡ 0)) (ok_is [] xs e) (All-nil (λ x. x < 2 * n), refl)
+letters_rank n l c (b ∷ bs) xs h e =
+    let p = bind_ok (letter_at l c (letter_of n b)) (λ x. letters_at n l (c + 1) bs >>= λ ys. Ok (x ∷ ys)) xs e in
+    let q = bind_ok (letters_at n l (c + 1) bs) (λ ys. Ok (p.0 ∷ ys)) xs p.2 in
+    let r = letters_rank n l (c + 1) bs q.0 h q.1 in
+    subst (λ (v : List ℕ). IsOfRank n v × (length v ≡ suc (length bs))) (ok_is (p.0 ∷ q.0) xs q.2)
+    (All-cons (λ x. x < 2 * n) p.0 q.0 (letter_small n b p.0 h (letter_some n l c (letter_of n b) p.0 p.1)) r.0, omega (arith, r.1))
+
+-- ---- items
+items_step : {A : Type 0} (item : Field → Result A ReadError) (fs : List Field) (i : ℕ) (f : Field) → i < length fs → f ≡ get_or fs i f →
+    items_at item (drop i fs) ≡ (item f >>= λ w. items_at item (drop (i + 1) fs) >>= λ ws. Ok (w ∷ ws))
+unfolding items_at
+items_step item fs i f lt is =
+    ap (items_at item) (drop_more fs i f lt)
+    ∙ ap (λ g. item g >>= λ w. items_at item (drop (i + 1) fs) >>= λ ws. Ok (w ∷ ws)) (sym is)
+
+pub items_more : {A : Type 0} (item : Field → Result A ReadError) (fs : List Field) (out : List A) (i : ℕ) (f : Field) (w : A) → i < length fs → f ≡ get_or fs i f → item f ≡ Ok w →
+    with_front out (items_at item (drop i fs)) ≡ items_at item fs → with_front (out ++ w ∷ []) (items_at item (drop (i + 1) fs)) ≡ items_at item fs
+items_more item fs out i f w lt is e h =
+    front_more out w (items_at item (drop (i + 1) fs))
+    ∙ sym (ap (λ r. with_front out (r >>= λ w. items_at item (drop (i + 1) fs) >>= λ ws. Ok (w ∷ ws))) e)
+    ∙ sym (ap (with_front out) (items_step item fs i f lt is)) ∙ h
+
+pub items_fail : {A : Type 0} (item : Field → Result A ReadError) (fs : List Field) (out : List A) (i : ℕ) (f : Field) (e : ReadError) → i < length fs → f ≡ get_or fs i f → Refuses (item f) e →
+    with_front out (items_at item (drop i fs)) ≡ items_at item fs → Refuses (items_at item fs) e
+items_fail item fs out i f e lt is fails h = λ known.
+    sym h ∙ ap (with_front out) (items_step item fs i f lt is)
+    ∙ ap (λ r. with_front out (r >>= λ w. items_at item (drop (i + 1) fs) >>= λ ws. Ok (w ∷ ws))) (fails known)
+
+pub items_end : {A : Type 0} (item : Field → Result A ReadError) (fs : List Field) (out : List A) (i : ℕ) → length fs ≤ i → with_front out (items_at item (drop i fs)) ≡ items_at item fs → items_at item fs ≡ Ok out
+unfolding items_at
+items_end item fs out i le h = sym h ∙ ap (λ r. with_front out (items_at item r)) (drop_all i fs le) ∙ ap (λ v. Ok v) (append-nil out)
+
+-- ---- words
+word_by : (t : Bool) (n l : ℕ) (f : Field) (w : List ℕ) → n ≤ 26 → cond t (Ok []) (letters_at n l f.column f.bytes) ≡ Ok w → IsOfRank n w × (length w ≤ length f.bytes)
+word_by true n l f w h e = subst (λ (v : List ℕ). IsOfRank n v × (length v ≤ length f.bytes)) (ok_is [] w e) (All-nil (λ x. x < 2 * n), omega arith)
+word_by false n l f w h e = let r = letters_rank n l f.column f.bytes w h e in (r.0, omega (arith, r.1))
+
+-- what words are that were read
+pub record AreRead (n : ℕ) (fs : List Field) (ws : List (List ℕ)) : Type 0 where
+  pub of_rank : All (IsOfRank n) ws
+  pub count : length ws ≡ length fs
+  pub total : sum_by length ws ≤ sum_by bytes_within fs
+
+pub words_read : (n l : ℕ) (fs : List Field) (ws : List (List ℕ)) → n ≤ 26 → words_at n l fs ≡ Ok ws → AreRead n fs ws
+unfolding items_at
+words_read n l [] ws h e = subst (AreRead n []) (ok_is [] ws e) (record { of_rank = All-nil (IsOfRank n); count = refl; total = omega arith })
+words_read n l (f ∷ fs) ws h e =
+    let p = bind_ok (word_at n l f) (λ w. words_at n l fs >>= λ vs. Ok (w ∷ vs)) ws e in
+    let q = bind_ok (words_at n l fs) (λ vs. Ok (p.0 ∷ vs)) ws p.2 in
+    let a = word_by (are f.bytes (codes "1")) n l f p.0 h p.1 in
+    let r = words_read n l fs q.0 h q.1 in
+    subst (AreRead n (f ∷ fs)) (ok_is (p.0 ∷ q.0) ws q.2) (record {
+      of_rank = All-cons (IsOfRank n) p.0 q.0 a.0 r.of_rank;
+      count = omega (arith, r.count);
+      total = omega (arith, sum_by-cons length p.0 q.0, sum_by-cons bytes_within f fs, r.total, a.1);
+    })
+
+-- ---- reduced
+pub reduced_rank : (n : ℕ) (ws : List (List ℕ)) → All (IsOfRank n) ws → All (IsOfRank n) (map free_reduction ws)
+reduced_rank n [] a = All-nil (IsOfRank n)
+reduced_rank n (w ∷ ws) a = All-cons (IsOfRank n) (free_reduction w) (map free_reduction ws) (free_reduction-of_rank n w (All-head (IsOfRank n) w ws a)) (reduced_rank n ws (All-tail (IsOfRank n) w ws a))
+
+pub cyclic_total : (ws : List (List ℕ)) → sum_by length (map cyclic_word (map free_reduction ws)) ≤ sum_by length ws
+cyclic_total [] = omega arith
+cyclic_total (w ∷ ws) =
+    omega (
+      arith,
+      sum_by-cons length (cyclic_word (free_reduction w)) (map cyclic_word (map free_reduction ws)),
+      sum_by-cons length w ws,
+      cyclic_word-length (free_reduction w),
+      free_reduction-length w,
+      cyclic_total ws,
+    )
+
+pub reduced_cyclic : (ws : List (List ℕ)) → map cyclic_word (map free_reduction ws) ≡ map cyclic_word ws
+reduced_cyclic [] = refl
+reduced_cyclic (w ∷ ws) = ap (λ v. v ∷ map cyclic_word (map free_reduction ws)) (cyclic_word-free_reduction w) ∙ ap (λ vs. cyclic_word w ∷ vs) (reduced_cyclic ws)
+
+pub short_done : (n l : ℕ) (ws : List (List ℕ)) → sum_by length ws ≤ 4096 → short_tuple n l ws ≡ Ok (record { rank = n; words = map cyclic_word (map free_reduction ws) })
+short_done n l ws h = cond-false (ltb 4096 (sum_by length ws)) _ _ (is_not_more (sum_by length ws) h) ∙ sym (ap (λ vs. Ok (record { rank = n; words = vs })) (reduced_cyclic ws))
+  where
+    is_not_more : (k : ℕ) → k ≤ 4096 → ltb 4096 k ≡ false
+    is_not_more k h = grind (arith, nat_tests)

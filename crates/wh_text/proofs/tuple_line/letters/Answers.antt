@@ -1,0 +1,13 @@
+use Rattle.std.proofs.Common.{rules, ◌≡◌, ◌+◌, arith, ap, ◌∙◌, sym, drop, get_or}
+use Rattle.wh_text.specs.Spellings.{letters_at}
+use Rattle.wh_text.proofs.Items.{with_front, letters_more, letters_none}
+use Rattle.wh_text.proofs.tuple_line.letters.Goals as goal
+
+pub returns-in-None : goal.returns-in-None
+returns-in-None c = λ _. letters_none c.args.n c.args.line c.args.column c.args.bytes.now c.loop-byte.out.items c.loop-byte.byte-index (get_or c.args.bytes.now c.loop-byte.byte-index 0) c.loop-byte.at (omega arith) (search rules) (search rules) c.loop-byte.invariant.1
+
+pub loop-byte-preserved : goal.loop-byte-preserved
+loop-byte-preserved c = (
+  omega (arith, c.loop-byte.invariant.0),
+  rw c.in_ok-push-in-Some.ensures.items (letters_more c.args.n c.args.line c.args.column c.args.bytes.now c.loop-byte.out.items c.loop-byte.byte-index (get_or c.args.bytes.now c.loop-byte.byte-index 0) c.in-Some.x c.loop-byte.at (omega arith) (search rules) (search rules) c.loop-byte.invariant.1),
+)

@@ -1,0 +1,13 @@
+-- What a text means, from its bytes up to problems and answers.
+pub mod Lines
+pub mod Readings
+pub mod Numbers
+pub mod Spellings
+pub mod TupleLines
+pub mod Problems
+pub mod AnswerTexts
+pub mod RefusalTexts
+pub mod Statuses
+pub mod Laws
+-- How this crate goes through the bytes of a line.
+pub mod Scans

@@ -1,0 +1,8 @@
+//! Commands of the program.
+
+/// What is asked for.
+#[derive(Clone, Copy, PartialEq, Eq, Debug)]
+pub enum Command {
+    /// A trace from a tuple to one of least length, with its end.
+    Reduce,
+}

@@ -1,0 +1,25 @@
+//! Texts: problems are read from them, or the first refusal with its place, and answers and refusals are printed.
+#![tactic(auto)]
+
+mod answer;
+mod command;
+mod field;
+mod line;
+mod number;
+mod printer;
+mod problem;
+mod read_error;
+mod reader;
+mod refusal;
+mod sheet;
+mod status;
+mod tuple_line;
+
+pub use answer::{Answer, Side};
+pub use command::Command;
+pub use printer::print_answer;
+pub use problem::Problem;
+pub use read_error::ReadError;
+pub use reader::read_problem;
+pub use refusal::{print_refusal, refused_words};
+pub use status::Status;
