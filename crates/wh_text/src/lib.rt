@@ -17,6 +17,7 @@ mod tuple_line;
 
 pub use answer::{Answer, Side};
 pub use command::Command;
+pub use number::canonical_number;
 pub use printer::print_answer;
 pub use problem::Problem;
 pub use read_error::ReadError;

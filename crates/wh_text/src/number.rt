@@ -32,7 +32,7 @@ fn digits(bytes: &[u8]) -> Option<u64>
 }
 
 /// The number of a field: of `0`, or of digits whose first isn't 0. None where the field is no such number below 2 ^ 64.
-pub fn number(bytes: &[u8]) -> Option<u64>
+pub fn canonical_number(bytes: &[u8]) -> Option<u64>
     ensures { result ≡ spec.number bytes.now }
 {
     match bytes {

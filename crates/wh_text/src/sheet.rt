@@ -8,7 +8,7 @@ ghost use Rattle.wh_text.specs.Problems as spec;
 use crate::command::Command;
 use crate::field::{Field, split};
 use crate::line::{bad_at, is_comment};
-use crate::number::number;
+use crate::number::canonical_number;
 use crate::read_error::ReadError;
 use crate::tuple_line::read_tuple;
 use std::alloc::Global;
@@ -63,7 +63,7 @@ fn rank_of(command: Command, line: u64, fields: &[Field]) -> Result<Rank, ReadEr
     let [field] = fields else {
         return Err(ReadError::RankRange { line });
     };
-    rank_number(command, line, number(field.bytes()))
+    rank_number(command, line, canonical_number(field.bytes()))
 }
 
 impl Sheet {

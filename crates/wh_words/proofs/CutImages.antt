@@ -44,9 +44,9 @@ own_reduced w e =
     let n : length (cyclic_reduction w) ≡ length w = sym (rotate-length least.there.0 (cyclic_reduction w)) ∙ sym (ap length least.there.2) ∙ ap length e in
     let r : w ≡ free_reduction w = deletes_whole (remains_there w) (omega (arith, n, cyclic_core-length (free_reduction w))) in
     let apart : ends_cancel w ≡ false = elim (cases_Bool (ends_cancel w)) [
-        | inl h ↦ absurd (omega (arith, n, ap (λ v. length (cyclic_core v)) r, strip_less w (ends w) h))
-        | inr h ↦ h
-      ] in
+      | inl h ↦ absurd (omega (arith, n, ap (λ v. length (cyclic_core v)) r, strip_less w (ends w) h))
+      | inr h ↦ h
+    ] in
     (subst IsReduced (sym r) (free_reduction-reduced w), apart)
 
 pub own_cyclic_reduction : (w : List ℕ) → IsCyclicallyReduced w → cyclic_reduction w ≡ w
@@ -109,19 +109,19 @@ image_spread a set x holds omits =
     let long : List ℕ = around (in_set set (inverse_letter x)) (in_set set x) a x in
     elim (cases_eq x a) [
       | inl e ↦ (
-        ap (λ (b : Bool). cond b (x ∷ []) long) (eq-eqb (x / 2) (a / 2) (ap (λ z. z / 2) e))
-        ∙ ap (λ z. z ∷ []) e
-        ∙ sym (spread_by a (in_set set) a false false true o (mult_is a (in_set set)) h)
-        ∙ ap (spread a (in_set set)) (sym e))
+          ap (λ (b : Bool). cond b (x ∷ []) long) (eq-eqb (x / 2) (a / 2) (ap (λ z. z / 2) e))
+          ∙ ap (λ z. z ∷ []) e
+          ∙ sym (spread_by a (in_set set) a false false true o (mult_is a (in_set set)) h)
+          ∙ ap (spread a (in_set set)) (sym e))
       | inr n ↦ elim (cases_eq x (inverse_letter a)) [
         | inl e ↦ (
-          ap (λ (b : Bool). cond b (x ∷ []) long) (eq-eqb (x / 2) (a / 2) (ap (λ z. z / 2) e ∙ inverse_generator a))
-          ∙ ap (λ z. z ∷ []) e
-          ∙ sym (spread_by a (in_set set) (inverse_letter a) true false false (ap (in_set set) (inverse-inverse a) ∙ h) (inverse_is a (in_set set)) o)
-          ∙ ap (spread a (in_set set)) (sym e))
+            ap (λ (b : Bool). cond b (x ∷ []) long) (eq-eqb (x / 2) (a / 2) (ap (λ z. z / 2) e ∙ inverse_generator a))
+            ∙ ap (λ z. z ∷ []) e
+            ∙ sym (spread_by a (in_set set) (inverse_letter a) true false false (ap (in_set set) (inverse-inverse a) ∙ h) (inverse_is a (in_set set)) o)
+            ∙ ap (spread a (in_set set)) (sym e))
         | inr m ↦ (
-          ap (λ (b : Bool). cond b (x ∷ []) long) (ne_eqb (x / 2) (a / 2) (λ e. m (same_generator x a e n)))
-          ∙ sym (spread_by a (in_set set) x (in_set set (inverse_letter x)) true (in_set set x) refl (other_is a (in_set set) x n m) refl))
+            ap (λ (b : Bool). cond b (x ∷ []) long) (ne_eqb (x / 2) (a / 2) (λ e. m (same_generator x a e n)))
+            ∙ sym (spread_by a (in_set set) x (in_set set (inverse_letter x)) true (in_set set x) refl (other_is a (in_set set) x n m) refl))
       ]
     ]
 
@@ -156,15 +156,19 @@ last_more a has p w i x h e = sym (ap (last_or a has p) (take_more w i x h ∙ a
 
 pub pass_fits : (a : ℕ) (has : ℕ → Bool) (p : ℕ) (w : List ℕ) (i : ℕ) → length (pass a has p (take i w)) ≤ length (pass a has p w)
 pass_fits a has p w i =
-    omega (arith, ap (λ v. length (pass a has p v)) (sym (take-append-drop i w)) , ap length (pass-append a has p (take i w) (drop i w)), length-append (pass a has p (take i w)) (pass a has (last_or a has p (take i w)) (drop i w)))
+    omega (arith, ap (λ v. length (pass a has p v)) (sym (take-append-drop i w)), ap length (pass-append a has p (take i w) (drop i w)), length-append (pass a has p (take i w)) (pass a has (last_or a has p (take i w)) (drop i w)))
 
 pub step_fits : (a : ℕ) (has : ℕ → Bool) (p : ℕ) (w : List ℕ) (i x before : ℕ) → i < length w → x ≡ get_or w i x → before ≡ last_or a has p (take i w) →
     length (pass a has p (take i w)) + (length (junction a has before x) + length (kept a has x)) ≤ length (pass a has p w)
 step_fits a has p w i x before h e f =
-    omega (arith, pass_fits a has p w (i + 1), ap length (pass_more a has p w i x h e),
+    omega (
+      arith,
+      pass_fits a has p w (i + 1),
+      ap length (pass_more a has p w i x h e),
       length-append (pass a has p (take i w)) (junction a has (last_or a has p (take i w)) x ++ kept a has x),
       length-append (junction a has (last_or a has p (take i w)) x) (kept a has x),
-      ap (λ q. length (junction a has q x)) f)
+      ap (λ q. length (junction a has q x)) f,
+    )
 
 pub pass_step : (a : ℕ) (has : ℕ → Bool) (p : ℕ) (w : List ℕ) (i x before : ℕ) (start out mid new : List ℕ) → i < length w → x ≡ get_or w i x → before ≡ last_or a has p (take i w) →
     out ≡ start ++ pass a has p (take i w) → mid ≡ out ++ junction a has before x → new ≡ mid ++ kept a has x → new ≡ start ++ pass a has p (take (i + 1) w)
@@ -185,10 +189,13 @@ cut_image_length a set w h o e =
 pub step_length : (a : ℕ) (has : ℕ → Bool) (p : ℕ) (w : List ℕ) (i x before : ℕ) → i < length w → x ≡ get_or w i x → before ≡ last_or a has p (take i w) →
     length (pass a has p (take i w)) + (length (junction a has before x) + length (kept a has x)) ≡ length (pass a has p (take (i + 1) w))
 step_length a has p w i x before h e f =
-    omega (arith, ap length (pass_more a has p w i x h e),
+    omega (
+      arith,
+      ap length (pass_more a has p w i x h e),
       length-append (pass a has p (take i w)) (junction a has (last_or a has p (take i w)) x ++ kept a has x),
       length-append (junction a has (last_or a has p (take i w)) x) (kept a has x),
-      ap (λ q. length (junction a has q x)) f)
+      ap (λ q. length (junction a has q x)) f,
+    )
 
 kept_few : (a : ℕ) (has : ℕ → Bool) (b : Bool) (x : ℕ) → length (cond b (x ∷ []) []) ≤ 1
 kept_few a has true x = omega arith
@@ -203,8 +210,14 @@ junction_few a has false false = omega arith
 pass_twice : (a : ℕ) (has : ℕ → Bool) (p : ℕ) (w : List ℕ) → length (pass a has p w) ≤ 2 * length w
 pass_twice a has p [] = omega arith
 pass_twice a has p (x ∷ w) =
-    omega (arith, length-append (junction a has p x) (kept a has x ++ pass a has x w), length-append (kept a has x) (pass a has x w),
-      kept_few a has (is_other a has x) x, junction_few a has (has p) (has (inverse_letter x)), pass_twice a has x w)
+    omega (
+      arith,
+      length-append (junction a has p x) (kept a has x ++ pass a has x w),
+      length-append (kept a has x) (pass a has x w),
+      kept_few a has (is_other a has x) x,
+      junction_few a has (has p) (has (inverse_letter x)),
+      pass_twice a has x w,
+    )
 
 pub round_twice : (a : ℕ) (has : ℕ → Bool) (w : List ℕ) → length (round_pass a has w) ≤ 2 * length w
 round_twice a has w = pass_twice a has (get_or w (length w - 1) 0) w

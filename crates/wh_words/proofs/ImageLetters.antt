@@ -74,18 +74,25 @@ substitute_of_rank n k (x ∷ w) v r =
 pub image_sum : (k : spec.Kind) (ws : List (List ℕ)) → sum_by length (map (λ w. cyclic_word (substitute k w)) ws) ≤ 3 * sum_by length ws
 image_sum k [] = omega arith
 image_sum k (w ∷ ws) =
-    omega (arith, sum_by-cons length (cyclic_word (substitute k w)) (map (λ w. cyclic_word (substitute k w)) ws), sum_by-cons length w ws,
-        cyclic_word-length (substitute k w), substitute_length k w, image_sum k ws)
+    omega (
+      arith,
+      sum_by-cons length (cyclic_word (substitute k w)) (map (λ w. cyclic_word (substitute k w)) ws),
+      sum_by-cons length w ws,
+      cyclic_word-length (substitute k w),
+      substitute_length k w,
+      image_sum k ws,
+    )
 
 pub act_length : (t : TupleData) (m : Move) → IsTuple t → tuple_length (act t m) < 2 ^ 32
 act_length t m is = omega (arith, image_sum m.kind t.words, is.short)
 
 pub act_tuple : (t : TupleData) (m : Move) → IsTuple t → IsMove m → t.rank ≡ m.rank → tuple_length (act t m) ≤ 4096 → IsTuple (act t m)
 act_tuple t m is v e short = record {
-    cyclic = All-map (λ w. cyclic_word w ≡ w) (λ w. cyclic_word (substitute m.kind w)) t.words (λ k d h. cyclic_word-same (substitute m.kind (get_or t.words k d)));
-    of_rank = All-map (IsOfRank t.rank) (λ w. cyclic_word (substitute m.kind w)) t.words
-        (λ k d h. cyclic_word-of_rank t.rank (substitute m.kind (get_or t.words k d))
-            (subst (λ (n : ℕ). IsOfRank n (substitute m.kind (get_or t.words k d))) (sym e)
-                (substitute_of_rank m.rank m.kind (get_or t.words k d) v.kind (subst (λ (n : ℕ). IsOfRank n (get_or t.words k d)) e (is.of_rank k d h)))));
-    few = omega (arith, length-map t.words (λ w. cyclic_word (substitute m.kind w)), is.few);
-    short = short }
+  cyclic = All-map (λ w. cyclic_word w ≡ w) (λ w. cyclic_word (substitute m.kind w)) t.words (λ k d h. cyclic_word-same (substitute m.kind (get_or t.words k d)));
+  of_rank = All-map (IsOfRank t.rank) (λ w. cyclic_word (substitute m.kind w)) t.words
+      (λ k d h. cyclic_word-of_rank t.rank (substitute m.kind (get_or t.words k d))
+      (subst (λ (n : ℕ). IsOfRank n (substitute m.kind (get_or t.words k d))) (sym e)
+      (substitute_of_rank m.rank m.kind (get_or t.words k d) v.kind (subst (λ (n : ℕ). IsOfRank n (get_or t.words k d)) e (is.of_rank k d h)))));
+  few = omega (arith, length-map t.words (λ w. cyclic_word (substitute m.kind w)), is.few);
+  short = short;
+}

@@ -28,8 +28,16 @@ take_sum (w ∷ ws) (suc i) = omega (arith, take_sum ws i, sum_by-cons length w 
 pub made_fits : (rank : ℕ) (ws : List (List ℕ)) (i : ℕ) (w : List ℕ) (made : Tuple) → i < length ws → w ≡ get_or ws i w → made ≡ written rank ws i → cyclic_word w ≡ w →
     tuple_length made.plain + length (cyclic_word w) ≤ made.room
 made_fits rank ws i w made h e is own =
-    omega (arith, ap (λ (u : Tuple). tuple_length u.plain) is, ap (λ (u : Tuple). u.room) is, ap length own,
-      ap (sum_by length) (take_more ws i w h), sum_by_push length (take i ws) (get_or ws i w), ap length e, take_sum ws (i + 1))
+    omega (
+      arith,
+      ap (λ (u : Tuple). tuple_length u.plain) is,
+      ap (λ (u : Tuple). u.room) is,
+      ap length own,
+      ap (sum_by length) (take_more ws i w h),
+      sum_by_push length (take i ws) (get_or ws i w),
+      ap length e,
+      take_sum ws (i + 1),
+    )
 
 pub made_place : (rank : ℕ) (ws : List (List ℕ)) (i : ℕ) (made : Tuple) → i < length ws → made ≡ written rank ws i → length made.plain.words < made.word_room
 made_place rank ws i made h is = omega (arith, ap (λ (u : Tuple). length u.plain.words) is, ap (λ (u : Tuple). u.word_room) is, length-take i ws, h)

@@ -16,9 +16,10 @@ use Rattle.wh_words.proofs.CutImages.{least_length, reduced_image}
 inner_good : (w : List ℕ) → Ends w → ends_cancel w ≡ true → IsReduced w → IsReduced (inner w) × (length (inner w) < length w)
 inner_good w none h r = absurd (false≢true h)
 inner_good w (one x) h r = absurd (false≢true h)
-inner_good w (two x m y) h r =
-    (subst IsReduced (sym (inner-two x m y)) (front-reduced m (y ∷ []) r.1),
-      omega (arith, ap length (inner-two x m y), length-append m (y ∷ [])))
+inner_good w (two x m y) h r = (
+  subst IsReduced (sym (inner-two x m y)) (front-reduced m (y ∷ []) r.1),
+  omega (arith, ap length (inner-two x m y), length-append m (y ∷ [])),
+)
 
 strip_times_good : (n : ℕ) (w : List ℕ) → length w ≤ n → IsReduced w → IsCyclicallyReduced (strip_times n w)
 strip_times_good zero [] h r = (r, refl)
@@ -52,8 +53,15 @@ words_more ws i w h e = map_more cyclic_word ws i w h ∙ ap (λ v. map cyclic_w
 pub of_fits : (rank : ℕ) (ws : List (List ℕ)) (i : ℕ) (w c : List ℕ) (made : Tuple) → i < length ws → w ≡ get_or ws i w → made ≡ written_of rank ws i → cyclic_word c ≡ cyclic_word w →
     tuple_length made.plain + length (cyclic_word c) ≤ made.room
 of_fits rank ws i w c made h e is same =
-    omega (arith, ap (λ (u : Tuple). tuple_length u.plain) is, ap (λ (u : Tuple). u.room) is, ap length same,
-      ap (sum_by length) (words_more ws i w h e), sum_by_push length (map cyclic_word (take i ws)) (cyclic_word w), map_take_sum ws (i + 1))
+    omega (
+      arith,
+      ap (λ (u : Tuple). tuple_length u.plain) is,
+      ap (λ (u : Tuple). u.room) is,
+      ap length same,
+      ap (sum_by length) (words_more ws i w h e),
+      sum_by_push length (map cyclic_word (take i ws)) (cyclic_word w),
+      map_take_sum ws (i + 1),
+    )
 
 pub of_place : (rank : ℕ) (ws : List (List ℕ)) (i : ℕ) (made : Tuple) → i < length ws → made ≡ written_of rank ws i → length made.plain.words < made.word_room
 of_place rank ws i made h is =

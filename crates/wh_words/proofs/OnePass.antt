@@ -38,7 +38,7 @@ module _ (a : ℕ) (has : ℕ → Bool) where
       ∙ meets (has p) (has (inverse_letter x)) ((kept a has x ++ after_letter x) ++ flat_map spread w)
       ∙ ap (λ t. free_reduction (junction a has p x ++ t)) (append_assoc (kept a has x) (after_letter x) (flat_map spread w))
       ∙ under (junction a has p x) (kept a has x ++ (after_letter x ++ flat_map spread w)) (kept a has x ++ (pass a has x w ++ after_letter (last_or a has x w)))
-          (under (kept a has x) (after_letter x ++ flat_map spread w) (pass a has x w ++ after_letter (last_or a has x w)) (pass-is x w))
+      (under (kept a has x) (after_letter x ++ flat_map spread w) (pass a has x w ++ after_letter (last_or a has x w)) (pass-is x w))
       ∙ ap free_reduction (sym (append_assoc (junction a has p x) (kept a has x ++ pass a has x w) (after_letter (last_or a has x w)) ∙ ap (λ t. junction a has p x ++ t) (append_assoc (kept a has x) (pass a has x w) (after_letter (last_or a has x w)))))
 
   abbrev undo : Bool → List ℕ
@@ -65,5 +65,5 @@ module _ (a : ℕ) (has : ℕ → Bool) where
       sym (same_class (undo b ++ (fore ++ all)) all (undone_front b all))
       ∙ cyclic_word-turn (undo b) (fore ++ all)
       ∙ same_class ((fore ++ all) ++ undo b) ((round ++ fore) ++ undo b)
-          (sym (free_reduction-append_left (fore ++ all) (undo b)) ∙ ap (λ t. free_reduction (t ++ undo b)) (pass-is (last_or a has x w) (x ∷ w)) ∙ free_reduction-append_left (round ++ fore) (undo b))
+      (sym (free_reduction-append_left (fore ++ all) (undo b)) ∙ ap (λ t. free_reduction (t ++ undo b)) (pass-is (last_or a has x w) (x ∷ w)) ∙ free_reduction-append_left (round ++ fore) (undo b))
       ∙ same_class ((round ++ fore) ++ undo b) round (undone b round)

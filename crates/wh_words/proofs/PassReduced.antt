@@ -61,9 +61,9 @@ module _ (a : ℕ) (has : ℕ → Bool) (holds : has a ≡ true) (omits : has (i
   clear_inverse : (v : List ℕ) → Follows (inverse_letter a) v → StartsOtherThan (inverse_letter (inverse_letter a)) v
   clear_inverse [] f = tt
   clear_inverse (z ∷ v) f = elim (f.at_inverse refl) [
-      inl e ↦ λ h. inverse-other a (sym e ∙ h ∙ inverse-inverse a)
+    | inl e ↦ λ h. inverse-other a (sym e ∙ h ∙ inverse-inverse a)
     | inr o ↦ λ h. o.0.not_a (h ∙ inverse-inverse a)
-    ]
+  ]
 
   clear_other : (y : ℕ) (v : List ℕ) → Other y → Follows y v → StartsOtherThan (inverse_letter y) v
   clear_other y [] o f = tt
@@ -73,13 +73,15 @@ module _ (a : ℕ) (has : ℕ → Bool) (holds : has a ≡ true) (omits : has (i
   starts_a p h = record {
     at_a = λ e. inl refl;
     at_inverse = λ e. absurd (clash p h (ap has e ∙ omits));
-    at_other = a_apart p }
+    at_other = a_apart p;
+  }
 
   starts_inverse : (p : ℕ) → has p ≡ false → Starts p (inverse_letter a)
   starts_inverse p h = record {
     at_a = λ e. absurd (clash p (ap has e ∙ holds) h);
     at_inverse = λ e. inl refl;
-    at_other = inverse_apart p }
+    at_other = inverse_apart p;
+  }
 
   -- past an a that was dropped with no letter left, and past its inverse
   follows_past_a : (p : ℕ) (v : List ℕ) → has p ≡ false → a ≢ inverse_letter p → Follows a v → Follows p v
@@ -88,9 +90,10 @@ module _ (a : ℕ) (has : ℕ → Bool) (holds : has a ≡ true) (omits : has (i
     at_a = λ e. absurd (clash p (ap has e ∙ holds) h);
     at_inverse = λ e. absurd (n (sym (ap inverse_letter e ∙ inverse-inverse a)));
     at_other = λ o. elim (f.at_a refl) [
-        inl e ↦ λ k. a_apart p o (sym e ∙ k)
+      | inl e ↦ λ k. a_apart p o (sym e ∙ k)
       | inr q ↦ λ k. clash p (sym (back_to p z k) ∙ q.1) h
-      ] }
+    ];
+  }
 
   follows_past_inverse : (p : ℕ) (v : List ℕ) → has p ≡ true → inverse_letter a ≢ inverse_letter p → Follows (inverse_letter a) v → Follows p v
   follows_past_inverse p [] h n f = tt
@@ -98,9 +101,10 @@ module _ (a : ℕ) (has : ℕ → Bool) (holds : has a ≡ true) (omits : has (i
     at_a = λ e. absurd (n (ap inverse_letter (sym e)));
     at_inverse = λ e. absurd (clash p h (ap has e ∙ omits));
     at_other = λ o. elim (f.at_inverse refl) [
-        inl e ↦ λ k. inverse_apart p o (sym e ∙ k)
+      | inl e ↦ λ k. inverse_apart p o (sym e ∙ k)
       | inr q ↦ λ k. clash p h (sym (back_to p z k) ∙ q.1)
-      ] }
+    ];
+  }
 
   pub record Good (p : ℕ) (v : List ℕ) : Type 0 where
     pub reduced : IsReduced v
@@ -111,48 +115,48 @@ module _ (a : ℕ) (has : ℕ → Bool) (holds : has a ≡ true) (omits : has (i
       let out : has (inverse_letter y) ≡ false = ap (λ t. has (inverse_letter t)) e ∙ omits in
       let next : Follows a (pass a has y v) = subst (λ (t : ℕ). Follows t (pass a has y v)) e g.follows in
       elim (cases_Bool (has p)) [
-          inl h ↦ subst (Good p) (sym (pass_at p y v [] true false h out (core_a y e)))
-              (record { reduced = (clear_a (pass a has y v) next, g.reduced); follows = starts_a p h })
+        | inl h ↦ subst (Good p) (sym (pass_at p y v [] true false h out (core_a y e)))
+            (record { reduced = (clear_a (pass a has y v) next, g.reduced); follows = starts_a p h })
         | inr h ↦ subst (Good p) (sym (pass_at p y v [] false false h out (core_a y e)))
-              (record { reduced = g.reduced; follows = follows_past_a p (pass a has y v) h (λ k. n (e ∙ k)) next })
-        ]
+            (record { reduced = g.reduced; follows = follows_past_a p (pass a has y v) h (λ k. n (e ∙ k)) next })
+      ]
 
   good_inverse : (p y : ℕ) (v : List ℕ) → y ≡ inverse_letter a → y ≢ inverse_letter p → Good y (pass a has y v) → Good p (pass a has p (y ∷ v))
   good_inverse p y v e n g =
       let into : has (inverse_letter y) ≡ true = ap has (ap inverse_letter e ∙ inverse-inverse a) ∙ holds in
       let next : Follows (inverse_letter a) (pass a has y v) = subst (λ (t : ℕ). Follows t (pass a has y v)) e g.follows in
       elim (cases_Bool (has p)) [
-          inl h ↦ subst (Good p) (sym (pass_at p y v [] true true h into (core_inverse y e)))
-              (record { reduced = g.reduced; follows = follows_past_inverse p (pass a has y v) h (λ k. n (e ∙ k)) next })
+        | inl h ↦ subst (Good p) (sym (pass_at p y v [] true true h into (core_inverse y e)))
+            (record { reduced = g.reduced; follows = follows_past_inverse p (pass a has y v) h (λ k. n (e ∙ k)) next })
         | inr h ↦ subst (Good p) (sym (pass_at p y v [] false true h into (core_inverse y e)))
-              (record { reduced = (clear_inverse (pass a has y v) next, g.reduced); follows = starts_inverse p h })
-        ]
+            (record { reduced = (clear_inverse (pass a has y v) next, g.reduced); follows = starts_inverse p h })
+      ]
 
   good_other : (p y : ℕ) (v : List ℕ) → Other y → y ≢ inverse_letter p → Good y (pass a has y v) → Good p (pass a has p (y ∷ v))
   good_other p y v o n g =
       let rest : IsReduced (y ∷ pass a has y v) = (clear_other y (pass a has y v) o g.follows, g.reduced) in
       elim (cases_Bool (has p)) [
-          inl h ↦ elim (cases_Bool (has (inverse_letter y))) [
-              inl k ↦ subst (Good p) (sym (pass_at p y v (y ∷ []) true true h k (core_other y o)))
-                  (record { reduced = rest; follows = record { at_a = λ e. inr (o, k); at_inverse = λ e. absurd (clash p h (ap has e ∙ omits)); at_other = λ q. n } })
-            | inr k ↦ subst (Good p) (sym (pass_at p y v (y ∷ []) true false h k (core_other y o)))
-                  (record { reduced = (o.not_inverse, rest); follows = starts_a p h })
-            ]
-        | inr h ↦ elim (cases_Bool (has (inverse_letter y))) [
-              inl k ↦ subst (Good p) (sym (pass_at p y v (y ∷ []) false true h k (core_other y o)))
-                  (record { reduced = ((λ e. o.not_a (e ∙ inverse-inverse a)), rest); follows = starts_inverse p h })
-            | inr k ↦ subst (Good p) (sym (pass_at p y v (y ∷ []) false false h k (core_other y o)))
-                  (record { reduced = rest; follows = record { at_a = λ e. absurd (clash p (ap has e ∙ holds) h); at_inverse = λ e. inr (o, k); at_other = λ q. n } })
-            ]
+        | inl h ↦ elim (cases_Bool (has (inverse_letter y))) [
+          | inl k ↦ subst (Good p) (sym (pass_at p y v (y ∷ []) true true h k (core_other y o)))
+              (record { reduced = rest; follows = record { at_a = λ e. inr (o, k); at_inverse = λ e. absurd (clash p h (ap has e ∙ omits)); at_other = λ q. n } })
+          | inr k ↦ subst (Good p) (sym (pass_at p y v (y ∷ []) true false h k (core_other y o)))
+              (record { reduced = (o.not_inverse, rest); follows = starts_a p h })
         ]
+        | inr h ↦ elim (cases_Bool (has (inverse_letter y))) [
+          | inl k ↦ subst (Good p) (sym (pass_at p y v (y ∷ []) false true h k (core_other y o)))
+              (record { reduced = ((λ e. o.not_a (e ∙ inverse-inverse a)), rest); follows = starts_inverse p h })
+          | inr k ↦ subst (Good p) (sym (pass_at p y v (y ∷ []) false false h k (core_other y o)))
+              (record { reduced = rest; follows = record { at_a = λ e. absurd (clash p (ap has e ∙ holds) h); at_inverse = λ e. inr (o, k); at_other = λ q. n } })
+        ]
+      ]
 
   -- the pass over what follows p in a reduced word is reduced
   pub pass-good : (p : ℕ) (w : List ℕ) → IsReduced (p ∷ w) → Good p (pass a has p w)
   pass-good p [] r = record { reduced = tt; follows = tt }
   pass-good p (y ∷ v) r = elim (cases_eq y a) [
-      inl e ↦ good_a p y v e r.0 (pass-good y v r.1)
+    | inl e ↦ good_a p y v e r.0 (pass-good y v r.1)
     | inr n ↦ elim (cases_eq y (inverse_letter a)) [
-          inl e ↦ good_inverse p y v e r.0 (pass-good y v r.1)
-        | inr m ↦ good_other p y v (record { not_a = n; not_inverse = m }) r.0 (pass-good y v r.1)
-        ]
+      | inl e ↦ good_inverse p y v e r.0 (pass-good y v r.1)
+      | inr m ↦ good_other p y v (record { not_a = n; not_inverse = m }) r.0 (pass-good y v r.1)
     ]
+  ]

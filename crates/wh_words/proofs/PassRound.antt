@@ -24,7 +24,7 @@ pass-append a has p [] v = refl
 pass-append a has p (x ∷ u) v =
     ap (λ t. junction a has p x ++ (kept a has x ++ t)) (pass-append a has x u v)
     ∙ sym (append_assoc (junction a has p x) (kept a has x ++ pass a has x u) (pass a has (last_or a has x u) v)
-        ∙ ap (λ t. junction a has p x ++ t) (append_assoc (kept a has x) (pass a has x u) (pass a has (last_or a has x u) v)))
+    ∙ ap (λ t. junction a has p x ++ t) (append_assoc (kept a has x) (pass a has x u) (pass a has (last_or a has x u) v)))
 
 -- a word that may follow itself has no ends that cancel
 doubled_open : (r : List ℕ) → Ends r → IsReduced (r ++ r) → ends_cancel r ≡ false
@@ -32,8 +32,8 @@ doubled_open r none h = refl
 doubled_open r (one x) h = refl
 doubled_open r (two x m y) h =
     other_ends x m y (λ e. last_two (x ∷ m) y x
-        (front-reduced (x ∷ (m ++ y ∷ x ∷ [])) (m ++ y ∷ []) (subst IsReduced (ap (λ t. x ∷ t) (append_assoc m (y ∷ []) (x ∷ (m ++ y ∷ [])) ∙ sym (append_assoc m (y ∷ x ∷ []) (m ++ y ∷ [])))) h))
-        (turned y x e))
+    (front-reduced (x ∷ (m ++ y ∷ x ∷ [])) (m ++ y ∷ []) (subst IsReduced (ap (λ t. x ∷ t) (append_assoc m (y ∷ []) (x ∷ (m ++ y ∷ [])) ∙ sym (append_assoc m (y ∷ x ∷ []) (m ++ y ∷ [])))) h))
+    (turned y x e))
 
 module _ (a : ℕ) (has : ℕ → Bool) (holds : has a ≡ true) (omits : has (inverse_letter a) ≡ false) where
   pub round-reduced : (x : ℕ) (w : List ℕ) → IsReduced (last_or a has x w ∷ x ∷ w) → IsCyclicallyReduced (pass a has (last_or a has x w) (x ∷ w))
@@ -71,8 +71,14 @@ module _ (a : ℕ) (has : ℕ → Bool) (holds : has a ≡ true) (omits : has (i
   pub pass-length : (p : ℕ) (w : List ℕ) → length (pass a has p w) ≡ crossings p w + stay w
   pass-length p [] = omega arith
   pass-length p (x ∷ w) =
-      omega (arith, length-append (junction a has p x) (kept a has x ++ pass a has x w), length-append (kept a has x) (pass a has x w),
-          junction-length (has p) (has (inverse_letter x)), kept-length (is_other a has x) x, pass-length x w)
+      omega (
+        arith,
+        length-append (junction a has p x) (kept a has x ++ pass a has x w),
+        length-append (kept a has x) (pass a has x w),
+        junction-length (has p) (has (inverse_letter x)),
+        kept-length (is_other a has x) x,
+        pass-length x w,
+      )
 
   -- the length of the cyclic word after a cut
   pub cut-length : (x : ℕ) (w : List ℕ) → IsReduced (last_or a has x w ∷ x ∷ w) →

@@ -51,13 +51,13 @@ before_later : (f : ℕ → ℕ) (i j k d : ℕ) → ((m : ℕ) → m < k → f 
 before_later f i j k d same less h = record {
   at = k - d;
   same = λ m l.
-    let p : i + d + m ≡ i + (d + m) = omega arith in
-    let q : j + d + m ≡ j + (d + m) = omega arith in
-    ap f p ∙ same (d + m) (omega arith) ∙ sym (ap f q);
+      let p : i + d + m ≡ i + (d + m) = omega arith in
+      let q : j + d + m ≡ j + (d + m) = omega arith in
+      ap f p ∙ same (d + m) (omega arith) ∙ sym (ap f q);
   less =
-    let p : i + d + (k - d) ≡ i + k = omega arith in
-    let q : j + d + (k - d) ≡ j + k = omega arith in
-    subst (λ (a : ℕ). f a < f (j + d + (k - d))) (sym p) (subst (λ (b : ℕ). f (i + k) < f b) (sym q) less);
+      let p : i + d + (k - d) ≡ i + k = omega arith in
+      let q : j + d + (k - d) ≡ j + k = omega arith in
+      subst (λ (a : ℕ). f a < f (j + d + (k - d))) (sym p) (subst (λ (b : ℕ). f (i + k) < f b) (sym q) less);
 }
 
 beaten_run : (f : ℕ → ℕ) (i j k t : ℕ) → ((m : ℕ) → m < k → f (i + m) ≡ f (j + m)) → f (i + k) < f (j + k) → j ≤ t → t < j + k + 1 → Beaten f t
@@ -124,11 +124,11 @@ rotate_reads : (w : List ℕ) (t m : ℕ) → t < length w → m < length w → 
 rotate_reads w t m h l = elim (cases_lt (t + m) (length w)) [
   | inl b ↦ get_or_append_left (drop t w) (take t w) 0 m (omega (arith, length-drop t w)) ∙ get_or-drop t w m 0 ∙ sym (round_near w (t + m) b)
   | inr b ↦ (
-    let e : m - (length w - t) ≡ t + m - length w = omega arith in
-    get_or-append_right (drop t w) (take t w) (length w - t) m 0 (omega (arith, length-drop t w)) (omega arith)
-    ∙ get_or-take t w (m - (length w - t)) 0 (omega arith)
-    ∙ ap (λ i. get_or w i 0) e
-    ∙ sym (round_far w (t + m) (omega arith) (omega arith)))
+      let e : m - (length w - t) ≡ t + m - length w = omega arith in
+      get_or-append_right (drop t w) (take t w) (length w - t) m 0 (omega (arith, length-drop t w)) (omega arith)
+      ∙ get_or-take t w (m - (length w - t)) 0 (omega arith)
+      ∙ ap (λ i. get_or w i 0) e
+      ∙ sym (round_far w (t + m) (omega arith) (omega arith)))
 ]
 
 differ_there : (u v : List ℕ) (k : ℕ) → k < length u → k < length v → ((m : ℕ) → m < k → get_or u m 0 ≡ get_or v m 0) → get_or u k 0 < get_or v k 0 → word_cmp u v ≡ Less
@@ -150,20 +150,20 @@ before_within : (w : List ℕ) (s t : ℕ) (b : Before (round w) s t) → 0 < le
 before_within w s t b h = elim (cases_lt b.at (length w)) [
   | inl l ↦ l
   | inr g ↦ (
-    let p : s + b.at ≡ s + (b.at - length w) + length w = omega arith in
-    let q : t + b.at ≡ t + (b.at - length w) + length w = omega arith in
-    let e : round w (s + b.at) ≡ round w (t + b.at) =
-        ap (round w) p ∙ round_again w (s + (b.at - length w)) ∙ b.same (b.at - length w) (omega arith) ∙ sym (ap (round w) q ∙ round_again w (t + (b.at - length w))) in
-    absurd (omega (arith, e, b.less)))
+      let p : s + b.at ≡ s + (b.at - length w) + length w = omega arith in
+      let q : t + b.at ≡ t + (b.at - length w) + length w = omega arith in
+      let e : round w (s + b.at) ≡ round w (t + b.at) =
+      ap (round w) p ∙ round_again w (s + (b.at - length w)) ∙ b.same (b.at - length w) (omega arith) ∙ sym (ap (round w) q ∙ round_again w (t + (b.at - length w))) in
+      absurd (omega (arith, e, b.less)))
 ]
 
 before_cmp : (w : List ℕ) (s t : ℕ) → s < length w → t < length w → Before (round w) s t → word_cmp (rotate s w) (rotate t w) ≡ Less
 before_cmp w s t h l b =
     let k : b.at < length w = before_within w s t b (omega arith) in
     differ_there (rotate s w) (rotate t w) b.at (omega (arith, rotate-length s w)) (omega (arith, rotate-length t w))
-      (λ m d. rotate_reads w s m h (omega arith) ∙ b.same m d ∙ sym (rotate_reads w t m l (omega arith)))
-      (subst (λ (a : ℕ). a < get_or (rotate t w) b.at 0) (sym (rotate_reads w s b.at h k))
-        (subst (λ (c : ℕ). round w (s + b.at) < c) (sym (rotate_reads w t b.at l k)) b.less))
+    (λ m d. rotate_reads w s m h (omega arith) ∙ b.same m d ∙ sym (rotate_reads w t m l (omega arith)))
+    (subst (λ (a : ℕ). a < get_or (rotate t w) b.at 0) (sym (rotate_reads w s b.at h k))
+    (subst (λ (c : ℕ). round w (s + b.at) < c) (sym (rotate_reads w t b.at l k)) b.less))
 
 -- the least rotation begins at no beaten start
 never_beaten : (w : List ℕ) (t : ℕ) → t < length w → least_rotation w ≡ rotate t w → Beaten (round w) t → ⊥
@@ -171,14 +171,14 @@ never_beaten w t h e b =
     let s : ℕ = b.0 % length w in
     let l : s < length w = mod-lt b.0 (omega arith) in
     let moved : Before (round w) s t = record {
-        at = b.1.at;
-        same = λ m d. round_start w b.0 m ∙ b.1.same m d;
-        less = subst (λ (a : ℕ). a < round w (t + b.1.at)) (sym (round_start w b.0 b.1.at)) b.1.less;
-      } in
+      at = b.1.at;
+      same = λ m d. round_start w b.0 m ∙ b.1.same m d;
+      less = subst (λ (a : ℕ). a < round w (t + b.1.at)) (sym (round_start w b.0 b.1.at)) b.1.less;
+    } in
     let upto : is_gt (word_cmp (rotate t w) (rotate s w)) ≡ false =
-        subst (λ (v : List ℕ). is_gt (word_cmp v (rotate s w)) ≡ false) e ((least_rotation-is w).least s (omega arith)) in
+    subst (λ (v : List ℕ). is_gt (word_cmp v (rotate s w)) ≡ false) e ((least_rotation-is w).least s (omega arith)) in
     let gt : is_gt (word_cmp (rotate t w) (rotate s w)) ≡ true =
-        ap is_gt (nat_list_cmp_total.antisymm (rotate t w) (rotate s w) ∙ ap ordering_reverse (before_cmp w s t l h moved)) in
+    ap is_gt (nat_list_cmp_total.antisymm (rotate t w) (rotate s w) ∙ ap ordering_reverse (before_cmp w s t l h moved)) in
     true≢false (sym gt ∙ upto)
 
 least_there : (w : List ℕ) → 0 < length w → (t : ℕ) × (t < length w) × (least_rotation w ≡ rotate t w)
@@ -199,17 +199,20 @@ settle f i j k c all (suc n) t h u = elim (cases_lt t j) [
     | inr d ↦ absurd (u (c.beaten t l d))
   ]
   | inr g ↦ (
-    let earlier : ℕ = i + (t - j) in
-    let moved : (m : ℕ) → f (earlier + m) ≡ f (t + m) = λ m.
-        let p : i + (t - j) + m ≡ i + ((t - j) + m) = omega arith in
-        let q : j + ((t - j) + m) ≡ t + m = omega arith in
-        ap f p ∙ all ((t - j) + m) ∙ ap f q in
-    λ m. sym (moved m) ∙ settle f i j k c all n earlier (omega (arith, c.before))
-        (λ b. u (b.0, record {
-            at = b.1.at;
-            same = λ x d. b.1.same x d ∙ moved x;
-            less = subst (λ (a : ℕ). f (b.0 + b.1.at) < a) (moved b.1.at) b.1.less;
-          })) m)
+      let earlier : ℕ = i + (t - j) in
+      let moved : (m : ℕ) → f (earlier + m) ≡ f (t + m) = λ m.
+      let p : i + (t - j) + m ≡ i + ((t - j) + m) = omega arith in
+      let q : j + ((t - j) + m) ≡ t + m = omega arith in
+      ap f p ∙ all ((t - j) + m) ∙ ap f q in
+      λ m. sym (moved m) ∙ settle f i j k c all n earlier (omega (arith, c.before))
+      (λ b. u (
+        b.0,
+        record {
+          at = b.1.at;
+          same = λ x d. b.1.same x d ∙ moved x;
+          less = subst (λ (a : ℕ). f (b.0 + b.1.at) < a) (moved b.1.at) b.1.less;
+        },
+      )) m)
 ]
 
 -- where the search ends
@@ -223,18 +226,19 @@ scan_done w i j k h c d =
         | inr n ↦ absurd (never_beaten w t there.1 there.2 (c.beaten t (omega (arith, there.1)) n))
       ]
       | inl l ↦ (
-        let far : length w ≤ k = elim d [
-          | inl p ↦ absurd (omega arith)
-          | inr p ↦ p
-        ] in
-        let all : (m : ℕ) → round w (i + m) ≡ round w (j + m) = λ m.
-            sym (round_end w i m) ∙ c.same (m % length w) (omega (arith, mod-lt m h)) ∙ round_end w j m in
-        let seen : (m : ℕ) → round w (t + m) ≡ round w (i + m) = settle (round w) i j k c all (suc t) t (omega arith) (never_beaten w t there.1 there.2) in
-        let within : i < length w = omega (arith, c.before) in
-        (within,
-          ext_get_or 0 (rotate i w) (rotate t w) (rotate-length i w ∙ sym (rotate-length t w))
-            (λ m b. rotate_reads w i m within (omega (arith, rotate-length i w)) ∙ sym (seen m) ∙ sym (rotate_reads w t m there.1 (omega (arith, rotate-length i w))))
-          ∙ sym there.2))
+          let far : length w ≤ k = elim d [
+            | inl p ↦ absurd (omega arith)
+            | inr p ↦ p
+          ] in
+          let all : (m : ℕ) → round w (i + m) ≡ round w (j + m) = λ m.
+          sym (round_end w i m) ∙ c.same (m % length w) (omega (arith, mod-lt m h)) ∙ round_end w j m in
+          let seen : (m : ℕ) → round w (t + m) ≡ round w (i + m) = settle (round w) i j k c all (suc t) t (omega arith) (never_beaten w t there.1 there.2) in
+          let within : i < length w = omega (arith, c.before) in (
+            within,
+            ext_get_or 0 (rotate i w) (rotate t w) (rotate-length i w ∙ sym (rotate-length t w))
+                (λ m b. rotate_reads w i m within (omega (arith, rotate-length i w)) ∙ sym (seen m) ∙ sym (rotate_reads w t m there.1 (omega (arith, rotate-length i w))))
+                ∙ sym there.2,
+          ))
     ]
 
 pub empty_start : (w : List ℕ) → length w ≡ 0 → rotate 0 w ≡ least_rotation w

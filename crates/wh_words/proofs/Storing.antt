@@ -44,18 +44,18 @@ row_push n es xs room word_room held held_words w r own of_rank fits place =
     let more : tuple_length (with_word t w).plain ≡ tuple_length t.plain + length w = sum_by_push length t.plain.words w in
     record {
       roomed = subst (λ (ws : List (List ℕ)). IsRoomed (record { plain = record { rank = n; words = ws }; room = room; word_room = word_room })) (sym e)
-        (record {
-          tuple = record {
-            cyclic = All-append (λ v. cyclic_word v ≡ v) t.plain.words (w ∷ []) r.roomed.tuple.cyclic (All-cons (λ v. cyclic_word v ≡ v) w [] own (All-nil (λ v. cyclic_word v ≡ v)));
-            of_rank = All-append (IsOfRank n) t.plain.words (w ∷ []) r.roomed.tuple.of_rank (All-cons (IsOfRank n) w [] of_rank (All-nil (IsOfRank n)));
-            few = omega (arith, length-append t.plain.words (w ∷ []), count, place, r.roomed.words_within);
-            short = omega (arith, more, total, fits, r.roomed.letters_within);
-          };
-          letters = omega (arith, more, total, fits);
-          words = omega (arith, length-append t.plain.words (w ∷ []), count, place);
-          letters_within = r.roomed.letters_within;
-          words_within = r.roomed.words_within;
-        });
+          (record {
+            tuple = record {
+              cyclic = All-append (λ v. cyclic_word v ≡ v) t.plain.words (w ∷ []) r.roomed.tuple.cyclic (All-cons (λ v. cyclic_word v ≡ v) w [] own (All-nil (λ v. cyclic_word v ≡ v)));
+              of_rank = All-append (IsOfRank n) t.plain.words (w ∷ []) r.roomed.tuple.of_rank (All-cons (IsOfRank n) w [] of_rank (All-nil (IsOfRank n)));
+              few = omega (arith, length-append t.plain.words (w ∷ []), count, place, r.roomed.words_within);
+              short = omega (arith, more, total, fits, r.roomed.letters_within);
+            };
+            letters = omega (arith, more, total, fits);
+            words = omega (arith, length-append t.plain.words (w ∷ []), count, place);
+            letters_within = r.roomed.letters_within;
+            words_within = r.roomed.words_within;
+          });
       laid = subst (EndsRise 0 (es ++ (length xs + length w) ∷ [])) (sym (length-append xs w)) (ends_rise-push 0 es (length xs) (length xs + length w) r.laid (omega arith));
       held = r.held;
       held_words = r.held_words;

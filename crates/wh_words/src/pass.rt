@@ -15,7 +15,13 @@ use crate::letter_set::LetterSet;
 use smallvec::SmallVec;
 
 /// Writes what a cut leaves between a letter and the next.
-fn push_junction(out: &mut SmallVec<Letter, INLINE>, before: Letter, x: Letter, mult: Letter, set: LetterSet)
+fn push_junction(
+    out: &mut SmallVec<Letter, INLINE>,
+    before: Letter,
+    x: Letter,
+    mult: Letter,
+    set: LetterSet,
+)
     requires { HasRoomFor out.old (length (junction mult (in_set set) before x)) }
     ensures items { out.new.items ≡ out.old.items ++ junction mult (in_set set) before x }
     ensures capacity { out.new.capacity ≡ out.old.capacity }
@@ -44,7 +50,12 @@ fn push_kept(out: &mut SmallVec<Letter, INLINE>, x: Letter, mult: Letter, set: L
 
 /// Writes the pass of a cut round a cyclic word.
 #[tactic(auto, using(crate::proofs::CutImages::pass_more, crate::proofs::CutImages::last_more, crate::proofs::CutImages::pass_fits))]
-pub(crate) fn push_pass(out: &mut SmallVec<Letter, INLINE>, word: &[Letter], mult: Letter, set: LetterSet)
+pub(crate) fn push_pass(
+    out: &mut SmallVec<Letter, INLINE>,
+    word: &[Letter],
+    mult: Letter,
+    set: LetterSet,
+)
     requires { HasRoomFor out.old (length (round_pass mult (in_set set) word.now)) }
     ensures items { out.new.items ≡ out.old.items ++ round_pass mult (in_set set) word.now }
     ensures capacity { out.new.capacity ≡ out.old.capacity }
@@ -74,7 +85,11 @@ fn kept_length(x: Letter, mult: Letter, set: LetterSet) -> u32
     ensures value { result ≡ length (kept mult (in_set set) x) }
     ensures few { result ≤ 1 }
 {
-    if x != mult && x != mult.inverse() { 1 } else { 0 }
+    if x != mult && x != mult.inverse() {
+        1
+    } else {
+        0
+    }
 }
 
 /// How long the pass of a cut round a cyclic word is.

@@ -31,7 +31,11 @@ fn turn_from(letters: &mut SmallVec<Letter, INLINE>, start: usize)
 
 /// Ends the word that begins at `start`: it is turned to its first rotation, and its end is written.
 #[tactic(auto, using(crate::proofs::Storing::end_split, crate::proofs::Storing::end_length))]
-pub(crate) fn end_word(letters: &mut SmallVec<Letter, INLINE>, ends: &mut SmallVec<u16, INLINE_WORDS>, start: usize)
+pub(crate) fn end_word(
+    letters: &mut SmallVec<Letter, INLINE>,
+    ends: &mut SmallVec<u16, INLINE_WORDS>,
+    start: usize,
+)
     requires within { start ≤ length letters.old.items }
     requires short { length letters.old.items ≤ 4096 }
     requires room { HasRoomFor ends.old 1 }

@@ -53,7 +53,11 @@ fn start_of(ends: &[u16], place: usize) -> usize
     requires { place ≤ length ends.now }
     ensures { result ≡ start_at 0 ends.now place }
 {
-    if place == 0 { 0 } else { ends[place - 1] as usize }
+    if place == 0 {
+        0
+    } else {
+        ends[place - 1] as usize
+    }
 }
 
 /// The word at a place.
@@ -91,7 +95,9 @@ fn total_core(words: &[Word]) -> usize
 }
 
 impl Tuple {
-    /// The tuple of the cyclic words of these words, with room for itself alone.
+    /// The tuple of the cyclic words of at most 64 words of the rank, whose cyclic words have at most 4,096 letters in
+    /// all. It has room for itself alone. It always succeeds, and takes no memory, where there are at most 4 words with
+    /// 16 letters.
     pub fn of(alloc: Global, rank: Rank, words: &[Word]) -> Result<Tuple, OutOfMemory>
         requires of_rank { All (IsOfRank rank) words.now }
         requires few { length words.now ≤ 64 }
@@ -106,7 +112,8 @@ impl Tuple {
         Ok(made)
     }
 
-    /// The tuple of these words, with room for itself alone.
+    /// The tuple of at most 64 cyclic words of the rank with at most 4,096 letters in all. It has room for itself alone.
+    /// It always succeeds, and takes no memory, where there are at most 4 words with 16 letters.
     #[tactic(auto, using(crate::proofs::MadeOfCyclic::made_start, crate::proofs::MadeOfCyclic::made_own))]
     pub fn of_cyclic(alloc: Global, rank: Rank, words: &[CyclicWord]) -> Result<Tuple, OutOfMemory>
         requires of_rank { All (IsOfRank rank) words.now }
@@ -122,7 +129,8 @@ impl Tuple {
         Ok(made)
     }
 
-    /// The order of two tuples: by rank, then word by word.
+    /// The order of two tuples, whatever their rooms are: by rank, then word by word; a proper prefix is smaller. It
+    /// takes no memory.
     #[tactic(auto, using(crate::proofs::MadeOfCyclic::words_equal, crate::proofs::MadeOfCyclic::words_first, crate::proofs::MadeOfCyclic::words_start, crate::proofs::MadeOfCyclic::words_end))]
     pub fn compared(&self, other: &Tuple) -> Ordering
         ensures { result ≡ tuple_cmp self.now.plain other.now.plain }
@@ -142,9 +150,15 @@ impl Tuple {
         self.count().cmp(&other.count())
     }
 
-    /// A tuple without words, with room for so many words and letters.
+    /// A tuple without words that has room for so many words, at most 64, and so many letters, at most 4,096. It always
+    /// succeeds, and takes no memory, up to 4 words and 16 letters.
     #[tactic(auto, using(crate::proofs::Storing::empty_tuple))]
-    pub fn with_room(alloc: Global, rank: Rank, words: usize, letters: usize) -> Result<Tuple, OutOfMemory>
+    pub fn with_room(
+        alloc: Global,
+        rank: Rank,
+        words: usize,
+        letters: usize,
+    ) -> Result<Tuple, OutOfMemory>
         requires few { words ≤ 64 }
         requires short { letters ≤ 4096 }
         ensures made { IfOk result (λ t. t ≡ record { plain = record { rank = rank; words = [] }; room = letters; word_room = words }) }
@@ -159,6 +173,7 @@ impl Tuple {
         })
     }
 
+    /// The rank.
     pub fn rank(&self) -> Rank
         ensures rank { result ≡ self.now.plain.rank }
         ensures roomed { IsRoomed self.now }
@@ -166,6 +181,7 @@ impl Tuple {
         self.rank
     }
 
+    /// How many words there are.
     #[tactic(auto, using(crate::proofs::StoredWords::split_at_length))]
     pub fn count(&self) -> usize
         ensures count { result ≡ length self.now.plain.words }
@@ -174,6 +190,7 @@ impl Tuple {
         self.ends.len()
     }
 
+    /// How many letters all words have together.
     #[tactic(auto, using(crate::proofs::StoredWords::split_at_total))]
     pub fn length(&self) -> u32
         ensures length { result ≡ tuple_length self.now.plain }
@@ -182,6 +199,7 @@ impl Tuple {
         self.letters.len() as u32
     }
 
+    /// The letters of the word at a place, counted from 0.
     #[tactic(auto, using(crate::proofs::StoredWords::split_at_length))]
     pub fn word(&self, place: usize) -> &[Letter]
         requires { place < length self.now.plain.words }
@@ -200,19 +218,21 @@ impl Tuple {
         self.letters.as_slice()
     }
 
+    /// How many letters fit in all: the number that `with_room` was asked for, or the tuple's own.
     pub fn room(&self) -> usize
         ensures { result ≡ self.now.room }
     {
         self.room
     }
 
+    /// How many words fit in all.
     pub fn word_room(&self) -> usize
         ensures { result ≡ self.now.word_room }
     {
         self.word_room
     }
 
-    /// An equal tuple, with room for itself alone.
+    /// An equal tuple, with room for itself alone. It always succeeds, and takes no memory, up to 4 words with 16 letters.
     #[tactic(auto, using(crate::proofs::StoredWords::split_at_length, crate::proofs::StoredWords::split_at_total))]
     pub fn copy(&self, alloc: Global) -> Result<Tuple, OutOfMemory>
         ensures same { IfOk result (λ t. t ≡ own_room self.now.plain) }
@@ -231,7 +251,7 @@ impl Tuple {
         })
     }
 
-    /// Takes all words out, and keeps the room.
+    /// Takes all words out, makes the tuple one of a rank, and keeps its rooms.
     #[tactic(auto, using(crate::proofs::Storing::empty_tuple))]
     pub fn clear(&mut self, rank: Rank)
         ensures { self.new ≡ without_words rank self.old }
@@ -241,7 +261,8 @@ impl Tuple {
         self.ends.clear();
     }
 
-    /// Writes the image of a cyclic word under a cut after the words.
+    /// Writes the image of a cyclic word under a cut of the rank after the words. It has to fit; the rooms stay. The cut
+    /// acts in one pass (Lyndon and Schupp, I.4).
     pub fn push_cut(&mut self, word: &[Letter], mult: Letter, set: LetterSet)
         requires own { cyclic_word word.now ≡ word.now }
         requires of_rank { IsOfRank self.old.plain.rank word.now }
@@ -255,7 +276,8 @@ impl Tuple {
         end_word(&mut self.letters, &mut self.ends, start);
     }
 
-    /// Writes the image of a cyclic word under a swap after the words.
+    /// Writes the image of a cyclic word under the swap of generators `k` and `k + 1` after the words. It has to fit; the
+    /// rooms stay.
     pub fn push_swap(&mut self, word: &[Letter], k: u8)
         requires own { cyclic_word word.now ≡ word.now }
         requires of_rank { IsOfRank self.old.plain.rank word.now }
@@ -270,7 +292,8 @@ impl Tuple {
         end_word(&mut self.letters, &mut self.ends, start);
     }
 
-    /// Writes the image of a cyclic word under an inversion after the words.
+    /// Writes the image of a cyclic word under the inversion of generator `k` after the words. It has to fit; the rooms
+    /// stay.
     pub fn push_invert(&mut self, word: &[Letter], k: u8)
         requires own { cyclic_word word.now ≡ word.now }
         requires of_rank { IsOfRank self.old.plain.rank word.now }
@@ -284,7 +307,7 @@ impl Tuple {
         end_word(&mut self.letters, &mut self.ends, start);
     }
 
-    /// Writes the cyclic word of a cyclically reduced word after the words.
+    /// Writes the cyclic word of a cyclically reduced word after the words. It has to fit; the rooms stay.
     pub fn push_word(&mut self, word: &[Letter])
         requires reduced { IsCyclicallyReduced word.now }
         requires of_rank { IsOfRank self.old.plain.rank word.now }
@@ -297,7 +320,7 @@ impl Tuple {
         end_word(&mut self.letters, &mut self.ends, start);
     }
 
-    /// Whether the ranks and the words are the same.
+    /// Whether the ranks and the words are the same, whatever the rooms are.
     #[tactic(auto, using(crate::proofs::SameTuples::same_match))]
     pub fn same(&self, other: &Tuple) -> bool
         ensures { MatchBool result (self.now.plain ≡ other.now.plain) (self.now.plain ≢ other.now.plain) }

@@ -24,7 +24,7 @@ push_word-requires-clause-of_rank c =
     let r : IsReduced c.word-item.result = c.letters.ensures.reduced in
     subst (λ (n : ℕ). IsOfRank n c.strip_ends.result.now) (sym (ap (λ (u : Tuple). u.plain.rank) c.loop-word.invariant))
     (subst (IsOfRank c.args.rank) (sym e) (cyclic_core-of_rank c.args.rank c.word-item.result
-      (subst (IsOfRank c.args.rank) (sym c.word-item.is) (c.requires.of_rank c.loop-word.word-index c.word-item.result (omega arith)))))
+    (subst (IsOfRank c.args.rank) (sym c.word-item.is) (c.requires.of_rank c.loop-word.word-index c.word-item.result (omega arith)))))
 
 pub push_word-requires-clause-letters : goal.push_word-requires-clause-letters
 push_word-requires-clause-letters c =
@@ -40,7 +40,7 @@ loop-word-preserved c =
     let e : c.strip_ends.result.now ≡ cyclic_core c.word-item.result = c.strip_ends.ensures ∙ ap cyclic_core c.letters.ensures.value in
     let r : IsReduced c.word-item.result = c.letters.ensures.reduced in
     of_more c.args.rank c.args.words.now c.loop-word.word-index c.word-item.result c.strip_ends.result.now c.loop-word.made c.push_word.new.self (omega arith) c.word-item.is c.loop-word.invariant
-      (ap cyclic_word e ∙ cyclic_word-cyclic_core c.word-item.result) c.push_word.ensures
+    (ap cyclic_word e ∙ cyclic_word-cyclic_core c.word-item.result) c.push_word.ensures
 
 pub returns-clause-made : goal.returns-clause-made
 returns-clause-made c = of_done c.args.rank c.args.words.now c.loop-word.word-index c.loop-word.made (omega arith) c.loop-word.invariant

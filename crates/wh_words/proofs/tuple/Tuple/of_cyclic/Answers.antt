@@ -22,8 +22,11 @@ push_word-requires-clause-of_rank c =
 
 pub push_word-requires-clause-letters : goal.push_word-requires-clause-letters
 push_word-requires-clause-letters c =
-    omega (arith, made_fits c.args.rank c.args.words.now c.loop-word.word-index c.word-item.result c.loop-word.made (omega arith) c.word-item.is c.loop-word.invariant c.letters.ensures.own,
-      ap (λ v. length (cyclic_word v)) c.letters.ensures.value)
+    omega (
+      arith,
+      made_fits c.args.rank c.args.words.now c.loop-word.word-index c.word-item.result c.loop-word.made (omega arith) c.word-item.is c.loop-word.invariant c.letters.ensures.own,
+      ap (λ v. length (cyclic_word v)) c.letters.ensures.value,
+    )
 
 pub push_word-requires-clause-place : goal.push_word-requires-clause-place
 push_word-requires-clause-place c = made_place c.args.rank c.args.words.now c.loop-word.word-index c.loop-word.made (omega arith) c.loop-word.invariant
@@ -31,7 +34,7 @@ push_word-requires-clause-place c = made_place c.args.rank c.args.words.now c.lo
 pub loop-word-preserved : goal.loop-word-preserved
 loop-word-preserved c =
     made_more c.args.rank c.args.words.now c.loop-word.word-index c.word-item.result c.loop-word.made c.push_word.new.self (omega arith) c.word-item.is c.loop-word.invariant c.letters.ensures.own
-      (c.push_word.ensures ∙ ap (λ v. with_word c.loop-word.made (cyclic_word v)) c.letters.ensures.value)
+    (c.push_word.ensures ∙ ap (λ v. with_word c.loop-word.made (cyclic_word v)) c.letters.ensures.value)
 
 pub returns-clause-made : goal.returns-clause-made
 returns-clause-made c = made_own c.args.rank c.args.words.now c.loop-word.word-index c.loop-word.made (omega arith) c.loop-word.invariant

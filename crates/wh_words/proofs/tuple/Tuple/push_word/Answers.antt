@@ -19,14 +19,25 @@ use Rattle.wh_words.proofs.tuple.Tuple.push_word.Goals as goal
 
 pub push_letters-requires : goal.push_letters-requires
 push_letters-requires c =
-    omega (arith, letter_fits c.args.self.now c.self.inside.rank c.self.inside.ends.items c.self.inside.letters.items c.self.inside.room c.self.inside.word_room c.self.inside.letters.capacity c.self.inside.ends.capacity (length (cyclic_word c.args.word.now)) c.self.view_is c.self.invariant c.requires.letters,
-      c.self.invariant.held, ap length (reduced_image c.args.word.now c.requires.reduced), least_length c.args.word.now)
+    omega (
+      arith,
+      letter_fits c.args.self.now c.self.inside.rank c.self.inside.ends.items c.self.inside.letters.items c.self.inside.room c.self.inside.word_room c.self.inside.letters.capacity c.self.inside.ends.capacity (length (cyclic_word c.args.word.now)) c.self.view_is c.self.invariant c.requires.letters,
+      c.self.invariant.held,
+      ap length (reduced_image c.args.word.now c.requires.reduced),
+      least_length c.args.word.now,
+    )
 
 pub end_word-requires-clause-short : goal.end_word-requires-clause-short
 end_word-requires-clause-short c =
-    omega (arith, letter_fits c.args.self.now c.self.inside.rank c.self.inside.ends.items c.self.inside.letters.items c.self.inside.room c.self.inside.word_room c.self.inside.letters.capacity c.self.inside.ends.capacity (length (cyclic_word c.args.word.now)) c.self.view_is c.self.invariant c.requires.letters,
-      c.self.invariant.roomed.letters_within, ap length (reduced_image c.args.word.now c.requires.reduced), least_length c.args.word.now,
-      ap length c.push_letters.ensures.items, length-append c.self.inside.letters.items c.args.word.now)
+    omega (
+      arith,
+      letter_fits c.args.self.now c.self.inside.rank c.self.inside.ends.items c.self.inside.letters.items c.self.inside.room c.self.inside.word_room c.self.inside.letters.capacity c.self.inside.ends.capacity (length (cyclic_word c.args.word.now)) c.self.view_is c.self.invariant c.requires.letters,
+      c.self.invariant.roomed.letters_within,
+      ap length (reduced_image c.args.word.now c.requires.reduced),
+      least_length c.args.word.now,
+      ap length c.push_letters.ensures.items,
+      length-append c.self.inside.letters.items c.args.word.now,
+    )
 
 pub end_word-requires-clause-room : goal.end_word-requires-clause-room
 end_word-requires-clause-room c =
@@ -37,23 +48,23 @@ invariant_of-self c =
     let w : List ℕ = cyclic_word c.args.word.now in
     let is : w ≡ least_rotation c.args.word.now = reduced_image c.args.word.now c.requires.reduced in
     let xs : c.end_word.new.letters.items ≡ c.self.inside.letters.items ++ w =
-        word_written c.self.inside.letters.items c.args.word.now w c.push_letters.new.out.items c.end_word.new.letters.items c.len-start.result c.len-start.ensures.value c.push_letters.ensures.items c.end_word.ensures.items is in
+    word_written c.self.inside.letters.items c.args.word.now w c.push_letters.new.out.items c.end_word.new.letters.items c.len-start.result c.len-start.ensures.value c.push_letters.ensures.items c.end_word.ensures.items is in
     let es : c.end_word.new.ends.items ≡ c.self.inside.ends.items ++ (length c.self.inside.letters.items + length w) ∷ [] =
-        end_written c.self.inside.letters.items c.args.word.now w c.push_letters.new.out.items c.self.inside.ends.items c.end_word.new.ends.items c.push_letters.ensures.items is c.end_word.ensures.ends in
+    end_written c.self.inside.letters.items c.args.word.now w c.push_letters.new.out.items c.self.inside.ends.items c.end_word.new.ends.items c.push_letters.ensures.items is c.end_word.ensures.ends in
     let rank : c.self.inside.rank ≡ c.args.self.now.plain.rank = ap (λ (u : Tuple). u.plain.rank) c.self.view_is in
     row_same c.self.inside.rank (c.self.inside.ends.items ++ (length c.self.inside.letters.items + length w) ∷ []) (c.self.inside.letters.items ++ w) c.end_word.new.ends.items c.end_word.new.letters.items
-      c.self.inside.room c.self.inside.word_room c.self.inside.letters.capacity c.self.inside.ends.capacity c.end_word.new.letters.capacity c.end_word.new.ends.capacity
-      (row_push c.self.inside.rank c.self.inside.ends.items c.self.inside.letters.items c.self.inside.room c.self.inside.word_room c.self.inside.letters.capacity c.self.inside.ends.capacity w c.self.invariant
-        (cyclic_word-same c.args.word.now)
-        (subst (λ (n : ℕ). IsOfRank n w) (sym rank) (cyclic_word-of_rank c.args.self.now.plain.rank c.args.word.now c.requires.of_rank))
-        (letter_fits c.args.self.now c.self.inside.rank c.self.inside.ends.items c.self.inside.letters.items c.self.inside.room c.self.inside.word_room c.self.inside.letters.capacity c.self.inside.ends.capacity (length w) c.self.view_is c.self.invariant c.requires.letters)
-        (place_fits c.args.self.now c.self.inside.rank c.self.inside.ends.items c.self.inside.letters.items c.self.inside.room c.self.inside.word_room c.self.inside.letters.capacity c.self.inside.ends.capacity c.self.view_is c.self.invariant c.requires.place))
-      es xs (c.end_word.ensures.capacity ∙ c.push_letters.ensures.capacity) c.end_word.ensures.ends_capacity
+    c.self.inside.room c.self.inside.word_room c.self.inside.letters.capacity c.self.inside.ends.capacity c.end_word.new.letters.capacity c.end_word.new.ends.capacity
+    (row_push c.self.inside.rank c.self.inside.ends.items c.self.inside.letters.items c.self.inside.room c.self.inside.word_room c.self.inside.letters.capacity c.self.inside.ends.capacity w c.self.invariant
+    (cyclic_word-same c.args.word.now)
+    (subst (λ (n : ℕ). IsOfRank n w) (sym rank) (cyclic_word-of_rank c.args.self.now.plain.rank c.args.word.now c.requires.of_rank))
+    (letter_fits c.args.self.now c.self.inside.rank c.self.inside.ends.items c.self.inside.letters.items c.self.inside.room c.self.inside.word_room c.self.inside.letters.capacity c.self.inside.ends.capacity (length w) c.self.view_is c.self.invariant c.requires.letters)
+    (place_fits c.args.self.now c.self.inside.rank c.self.inside.ends.items c.self.inside.letters.items c.self.inside.room c.self.inside.word_room c.self.inside.letters.capacity c.self.inside.ends.capacity c.self.view_is c.self.invariant c.requires.place))
+    es xs (c.end_word.ensures.capacity ∙ c.push_letters.ensures.capacity) c.end_word.ensures.ends_capacity
 
 pub returns : goal.returns
 returns c =
     let w : List ℕ = cyclic_word c.args.word.now in
     let is : w ≡ least_rotation c.args.word.now = reduced_image c.args.word.now c.requires.reduced in
     row_view c.self.inside.rank c.self.inside.ends.items c.self.inside.letters.items c.end_word.new.ends.items c.end_word.new.letters.items w c.self.inside.room c.self.inside.word_room c.args.self.now c.self.invariant.laid c.self.view_is
-      (end_written c.self.inside.letters.items c.args.word.now w c.push_letters.new.out.items c.self.inside.ends.items c.end_word.new.ends.items c.push_letters.ensures.items is c.end_word.ensures.ends)
-      (word_written c.self.inside.letters.items c.args.word.now w c.push_letters.new.out.items c.end_word.new.letters.items c.len-start.result c.len-start.ensures.value c.push_letters.ensures.items c.end_word.ensures.items is)
+    (end_written c.self.inside.letters.items c.args.word.now w c.push_letters.new.out.items c.self.inside.ends.items c.end_word.new.ends.items c.push_letters.ensures.items is c.end_word.ensures.ends)
+    (word_written c.self.inside.letters.items c.args.word.now w c.push_letters.new.out.items c.end_word.new.letters.items c.len-start.result c.len-start.ensures.value c.push_letters.ensures.items c.end_word.ensures.items is)

@@ -1,0 +1,4 @@
+pub mod Simple
+pub mod Parsed
+pub mod Pieces
+pub mod Telling

@@ -1,0 +1,52 @@
+-- What the words of the command line ask.
+use Rattle.std.specs.Prelude.{◌≡◌, ℕ, leb, ◌&&◌, cond, List, [], ◌∷◌, Option, Some, None, Result, Ok, Err, codes}
+use Rattle.clap.specs.Words.{Row, Text, Kinds, first_of, fault_of, matches_of}
+use Rattle.wh_text.specs.declared.command.Command.{Command}
+use Rattle.wh_text.specs.declared.command.Command.TheVariants as commands
+use Rattle.wh_text.specs.Numbers.{number}
+use Rattle.wh_text.specs.Spellings.{are}
+use Rattle.whitehead.specs.CommandLine.{program}
+use Rattle.whitehead.specs.declared.arguments.Arguments.{Arguments}
+use Rattle.whitehead.specs.declared.arguments.WordsError.{WordsError}
+use Rattle.whitehead.specs.declared.arguments.WordsError.TheVariants as errors
+
+-- The command of a name.
+abbrev pub command_of : Text → Option Command
+command_of t = cond (are t (codes "reduce")) (Some commands.Reduce) None
+
+abbrev pub command_in : Option Text → Option Command
+command_in None = None
+command_in (Some t) = command_of t
+
+abbrev pub in_range : ℕ → ℕ → Option ℕ → Option ℕ
+in_range least most None = None
+in_range least most (Some n) = cond (leb least n && leb n most) (Some n) None
+
+-- An option's text is a canonical number of its range. Where the option isn't given, it is the standing number.
+abbrev pub option_in : ℕ → ℕ → ℕ → Option Text → Option ℕ
+option_in least most standing None = Some standing
+option_in least most standing (Some t) = in_range least most (number t)
+
+abbrev pub together : Option Command → Option ℕ → Option ℕ → Option Arguments
+together None limit workers = None
+together (Some command) None workers = None
+together (Some command) (Some limit) None = None
+together (Some command) (Some limit) (Some workers) = Some (record { command = command; limit = limit; workers = workers })
+
+-- What the three texts ask. The limit is from 1 to 131,072 and stands at 10,000; there are 1 to 64 workers, and 1 where nothing is said.
+abbrev pub asked_by : Option Text → Option Text → Option Text → Option Arguments
+asked_by name limit workers = together (command_in name) (option_in 1 131072 10000 limit) (option_in 1 64 1 workers)
+
+abbrev pub asked_unless : Kinds → List Row → Option Arguments
+asked_unless [] rows = asked_by (first_of (codes "COMMAND") rows) (first_of (codes "limit") rows) (first_of (codes "workers") rows)
+asked_unless (k ∷ ks) rows = None
+
+-- What the words ask. Nothing, where the parser finds a fault, where the command is another word, or where an option's text is no number of its range.
+unfoldable pub asked : List Text → Option Arguments
+asked words = asked_unless (fault_of program words) (matches_of program words)
+
+-- The words are refused exactly where nothing is asked. Want of memory tells nothing of them.
+abbrev pub Tells : Result Arguments WordsError → Option Arguments → Type 0
+Tells (Ok a) asked = asked ≡ Some a
+Tells (Err errors.Refused) asked = asked ≡ None
+Tells (Err errors.OutOfMemory) asked = Unit {0}

@@ -1,0 +1,6 @@
+pub mod CommandLine
+pub mod Asked
+pub mod Streams
+pub mod Replies
+pub mod Outcome
+pub mod Endings

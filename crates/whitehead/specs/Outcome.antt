@@ -1,0 +1,52 @@
+-- What a run of the program does.
+use Rattle.std.specs.Prelude.{◌≡◌, ◌≢◌, ℕ, ◌≤◌, ◌⊎◌, List, [], None, Some}
+use Rattle.std.specs.declared.option.Option.{Option}
+use Rattle.clap.specs.Words.{Text}
+use Rattle.wh_io.specs.Device.{Consumed, Appended, Rose}
+use Rattle.wh_text.specs.declared.status.Status.{Status}
+use Rattle.wh_text.specs.declared.status.Status.TheVariants.{Done, No, Refused, Undecided, ReadFault, WriteFault, OutOfMemory}
+use Rattle.wh_text.specs.Problems.{most_bytes}
+use Rattle.wh_text.specs.RefusalTexts.{refused_words_text}
+use Rattle.whitehead.specs.declared.arguments.Arguments.{Arguments}
+use Rattle.whitehead.specs.Asked.{asked}
+use Rattle.whitehead.specs.Replies.{Replies}
+use Rattle.whitehead.specs.Streams.{IsWholeUpTo, IsPartWritten}
+
+-- What is told for these words and these bytes: a status and a text. Where the words ask nothing, they are refused, and no byte counts.
+pub data Told (words : List Text) (bytes : List ℕ) : Status → List ℕ → Type 0 where
+  words_refused : asked words ≡ None → Told words bytes Refused refused_words_text
+  replied : {a : Arguments} {status : Status} {text : List ℕ} → asked words ≡ Some a → Replies a.command bytes status text → Told words bytes status text
+
+module _ (words : List Text) (left left' held held' : Option (List ℕ)) where
+  -- A whole text is told, for the bytes that were read: none where the words are refused, and else all, or one more than the limit.
+  pub record HasTold (status : Status) : Type 0 where
+    pub bytes : List ℕ
+    pub text : List ℕ
+    pub read : Consumed left left' bytes
+    pub whole : ((asked words ≡ None) × (bytes ≡ [])) ⊎ IsWholeUpTo most_bytes bytes left'
+    pub written : Appended held held' text
+    pub told : Told words bytes status text
+
+  -- The sink failed after a front of a text that would have been told.
+  pub record HasToldPart : Type 0 where
+    pub bytes : List ℕ
+    pub text : List ℕ
+    pub status : Status
+    pub read : Consumed left left' bytes
+    pub whole : ((asked words ≡ None) × (bytes ≡ [])) ⊎ IsWholeUpTo most_bytes bytes left'
+    pub written : IsPartWritten held held' text
+    pub told : Told words bytes status text
+
+  -- Nothing is written.
+  abbrev pub IsSilent : Type 0
+  IsSilent = Appended held held' []
+
+  -- What a run did, by its status.
+  abbrev pub RanTo : Status → Type 0
+  RanTo Done = HasTold Done
+  RanTo No = HasTold No
+  RanTo Refused = HasTold Refused
+  RanTo Undecided = HasTold Undecided
+  RanTo ReadFault = IsSilent
+  RanTo WriteFault = HasToldPart
+  RanTo OutOfMemory = IsSilent

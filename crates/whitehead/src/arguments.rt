@@ -1,0 +1,102 @@
+//! What the words of the command line ask.
+ghost use Rattle.std.specs.Prelude.{◌≡◌, map, option_map};
+ghost use Rattle.whitehead.specs.Asked.{Tells, asked, asked_by, command_in};
+ghost use Rattle.whitehead.specs.Asked as spec;
+
+use crate::parsing::parsed_words;
+use clap::error::ErrorKind;
+use std::alloc::Global;
+use thiserror::Error;
+use wh_text::{Command, canonical_number};
+
+/// What is asked: a command, the greatest number of tuples of a level, and the number of workers.
+#[derive(Clone, Copy, Debug, PartialEq, Eq)]
+pub struct Arguments {
+    pub command: Command,
+    pub limit: u32,
+    pub workers: u32,
+}
+
+/// Why the words ask nothing.
+#[derive(Clone, Copy, Debug, PartialEq, Eq, Error)]
+pub enum WordsError {
+    /// They aren't a command with options of the program.
+    #[error("the words are refused")]
+    Refused,
+    /// There was no memory.
+    #[error("out of memory")]
+    OutOfMemory,
+}
+
+/// The command of a name, where it is given.
+fn command(name: Option<&str>) -> Option<Command>
+    ensures { result ≡ command_in (option_map (λ t. t.now) name.entry) }
+{
+    match name? {
+        "reduce" => Some(Command::Reduce),
+        _ => None,
+    }
+}
+
+/// The number of an option, or the standing one where the option isn't given. None where its text is no canonical number
+/// of the range.
+fn option_in(least: u32, most: u32, standing: u32, text: Option<&str>) -> Option<u32>
+    ensures { result ≡ spec.option_in least most standing (option_map (λ t. t.now) text.entry) }
+{
+    let Some(text) = text else {
+        return Some(standing);
+    };
+    match canonical_number(text.as_bytes()) {
+        Some(n) => {
+            if n >= least as u64 && n <= most as u64 {
+                Some(n as u32)
+            } else {
+                None
+            }
+        }
+        None => None,
+    }
+}
+
+/// What the three texts ask.
+fn arguments_of(
+    name: Option<&str>,
+    limit: Option<&str>,
+    workers: Option<&str>,
+) -> Option<Arguments>
+    ensures { result ≡ asked_by (option_map (λ t. t.now) name.entry) (option_map (λ t. t.now) limit.entry) (option_map (λ t. t.now) workers.entry) }
+{
+    let command = command(name)?;
+    let limit = option_in(1, 131072, 10000, limit)?;
+    let workers = option_in(1, 64, 1, workers)?;
+    Some(Arguments {
+        command,
+        limit,
+        workers,
+    })
+}
+
+/// What the words after the program's name ask: COMMAND, which is `reduce`, and the options `--limit N` with N from 1 to
+/// 131,072, which stands at 10,000, and `--workers N` with N from 1 to 64, which stands at 1. `Refused` comes exactly
+/// where the parser refuses the words, the command is another word, or an option's text is no canonical number of its
+/// range.
+#[tactic(auto, using(crate::proofs::Parsed::refused, crate::proofs::Parsed::asked_is))]
+pub fn read_arguments(alloc: Global, words: &[&str]) -> Result<Arguments, WordsError>
+    ensures { Tells result (asked (map (λ w. w.now) words.now)) }
+{
+    match parsed_words(alloc, words) {
+        Ok(found) => {
+            let name = found.get_str("COMMAND");
+            let limit = found.get_str("limit");
+            let workers = found.get_str("workers");
+            arguments_of(name, limit, workers).ok_or(WordsError::Refused)
+        }
+        Err(error) => {
+            if error.kind() == ErrorKind::OutOfMemory {
+                Err(WordsError::OutOfMemory)
+            } else {
+                Err(WordsError::Refused)
+            }
+        }
+    }
+}

@@ -1,0 +1,61 @@
+//! A run of the program.
+ghost use Rattle.std.specs.Prelude.{◌≡◌, None, map};
+ghost use Rattle.wh_io.specs.Device.{Rose};
+ghost use Rattle.whitehead.specs.Asked.{asked};
+ghost use Rattle.whitehead.specs.Endings.{Finished};
+ghost use Rattle.whitehead.specs.Outcome.{RanTo};
+
+use crate::arguments::{WordsError, read_arguments};
+use crate::reply::reply_to;
+use crate::streams::{InputError, read_all, write_all};
+use std::alloc::Global;
+use wh_io::{Sink, Source};
+use wh_text::{Status, refused_words};
+use wh_words::OutOfMemory;
+
+/// How many bytes an input may have.
+const MOST_BYTES: usize = 1048576;
+
+/// Writes a text, and answers the status, or the fault of writing.
+fn finish<K: Sink>(sink: &mut K, text: &[u8], status: Status) -> Status
+    ensures { Finished (K.held sink.old) (K.held sink.new) (K.fault_count sink.old) (K.fault_count sink.new) text.now status result }
+{
+    match write_all(sink, text) {
+        Ok(()) => status,
+        Err(_) => Status::WriteFault,
+    }
+}
+
+/// Runs the program: reads its words, which stand after its name, then the whole source, and writes the answer or the
+/// first refusal to the sink. The text stands whole in memory before the first byte is written.
+///
+/// Where the source tells its bytes and the sink what it holds, the clause `ran` says for `Done` and `Refused` that the
+/// sink grew by exactly the text that these words and these bytes are told, and that the source was read to its end or to
+/// one byte past 1,048,576. For `WriteFault` it grew by a front of such a text, and for `ReadFault` and `OutOfMemory` by
+/// nothing. Where the words are refused nothing is read.
+pub fn run<S: Source, K: Sink>(
+    alloc: Global,
+    words: &[&str],
+    source: &mut S,
+    sink: &mut K,
+) -> Status
+    ensures ran { RanTo (map (λ w. w.now) words.now) (S.left source.old) (S.left source.new) (K.held sink.old) (K.held sink.new) result }
+    ensures read_fault { result ≡ Status.ReadFault → Rose (S.fault_count source.old) (S.fault_count source.new) }
+    ensures write_fault { result ≡ Status.WriteFault → Rose (K.fault_count sink.old) (K.fault_count sink.new) }
+    ensures unread { asked (map (λ w. w.now) words.now) ≡ None → source.new ≡ source.old }
+{
+    let arguments = match read_arguments(alloc, words) {
+        Ok(arguments) => arguments,
+        Err(WordsError::Refused) => return finish(sink, refused_words(), Status::Refused),
+        Err(WordsError::OutOfMemory) => return Status::OutOfMemory,
+    };
+    let bytes = match read_all(alloc, source, MOST_BYTES) {
+        Ok(bytes) => bytes,
+        Err(InputError::Fault) => return Status::ReadFault,
+        Err(InputError::OutOfMemory) => return Status::OutOfMemory,
+    };
+    match reply_to(alloc, arguments.command, &bytes) {
+        Ok(reply) => finish(sink, reply.text.items(), reply.status),
+        Err(OutOfMemory) => Status::OutOfMemory,
+    }
+}
