@@ -1,0 +1,17 @@
+//! Tests by subject, through the public calls of the other crates.
+#![tactic(auto)]
+
+#[cfg(test)]
+mod command_line;
+#[cfg(test)]
+mod moves;
+#[cfg(test)]
+mod problem_text;
+#[cfg(test)]
+mod reduce;
+#[cfg(test)]
+mod streams;
+#[cfg(test)]
+mod support;
+#[cfg(test)]
+mod words;

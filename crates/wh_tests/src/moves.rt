@@ -1,0 +1,73 @@
+//! Moves, their images and their action.
+use crate::support::{letter, letters, tuple};
+use std::test::Fail;
+use wh_moves::{Move, act, act_into, acted_length, images};
+use wh_words::{LetterSet, Rank, Tuple};
+
+#[test]
+fn cuts_hold_their_multiplier_alone_of_its_generator(rt: HostRuntime) -> Result<(), Fail> {
+    let rank = Rank::new(2).ok_or("rank")?;
+    let a = letter(b'a')?;
+    let both = LetterSet::empty().with(a).with(a.inverse());
+    assert!(rt; Move::cut(rank, a, both).is_none());
+    let alone = Move::cut(rank, a, LetterSet::empty().with(a)).ok_or("cut")?;
+    assert!(rt; alone.is_identity());
+    assert!(rt; Move::swap(rank, 2).is_none());
+    assert!(rt; Move::invert(rank, 2).is_some());
+    Ok(())
+}
+
+#[test]
+fn moves_are_ordered_by_kind(rt: HostRuntime) -> Result<(), Fail> {
+    let rank = Rank::new(2).ok_or("rank")?;
+    let swap = Move::swap(rank, 1).ok_or("swap")?;
+    let invert = Move::invert(rank, 1).ok_or("invert")?;
+    let cut = Move::cut(rank, letter(b'a')?, LetterSet::of_bits(5)).ok_or("cut")?;
+    assert!(rt; swap < invert);
+    assert!(rt; invert < cut);
+    Ok(())
+}
+
+#[test]
+fn images_are_those_of_the_generators(rt: HostRuntime) -> Result<(), Fail> {
+    let alloc = rt.alloc();
+    let rank = Rank::new(3).ok_or("rank")?;
+    // a: a, B and c are in the set, so b goes to Ab and c to ca.
+    let cut = Move::cut(rank, letter(b'a')?, LetterSet::of_bits(1 + 8 + 16)).ok_or("cut")?;
+    let made = images(alloc, &cut)?;
+    assert_eq!(rt; made.words().len(), 3);
+    for (image, text) in made.words().iter().zip(["a", "Ab", "ca"]) {
+        assert_eq!(rt; image.letters(), letters(alloc, text)?.as_slice());
+    }
+    let swap = Move::swap(rank, 1).ok_or("swap")?;
+    assert!(rt; made != images(alloc, &swap)?);
+    Ok(())
+}
+
+#[test]
+fn a_cut_acts_on_each_word(rt: HostRuntime) -> Result<(), Fail> {
+    let alloc = rt.alloc();
+    let tuple = tuple(alloc, "rank 2\ntuple ab abAB 1\n")?;
+    let cut = Move::cut(tuple.rank(), letter(b'a')?, LetterSet::of_bits(9)).ok_or("cut")?;
+    assert_eq!(rt; cut.rank(), tuple.rank());
+    assert_eq!(rt; acted_length(&tuple, &cut), 5);
+    let acted = act(alloc, &tuple, &cut)?;
+    assert!(rt; acted.same(&self::tuple(alloc, "rank 2\ntuple b abAB 1\n")?));
+    assert_eq!(rt; acted.room(), 5);
+    Ok(())
+}
+
+#[test]
+fn a_tuple_is_made_in_the_room_of_another(rt: HostRuntime) -> Result<(), Fail> {
+    let alloc = rt.alloc();
+    let tuple = tuple(alloc, "rank 2\ntuple ab\n")?;
+    let cut = Move::cut(tuple.rank(), letter(b'a')?, LetterSet::of_bits(9)).ok_or("cut")?;
+    let mut into = Tuple::with_room(alloc, tuple.rank(), 1, 2)?;
+    assert_eq!(rt; cut.rank(), tuple.rank());
+    assert!(rt; acted_length(&tuple, &cut) as usize <= into.room());
+    assert!(rt; tuple.count() <= into.word_room());
+    act_into(&tuple, &cut, &mut into);
+    assert!(rt; into.same(&self::tuple(alloc, "rank 2\ntuple b\n")?));
+    assert_eq!(rt; into.room(), 2);
+    Ok(())
+}
