@@ -1,5 +1,5 @@
 -- A refusal of a byte names the first line that has a bad one, and the leftmost in it: for the law on bad bytes.
-use Rattle.std.proofs.Common.{◌≡◌, ℕ, suc, ◌+◌, ◌<◌, ltb, ◌==◌, Bool, true, false, cond, List, [], ◌∷◌, ◌++◌, length, sym, ap, ◌∙◌, refl, subst, arith, None, Some, inl, inr, Result, Ok, Err}
+use Rattle.std.proofs.Common.{◌≡◌, ℕ, ◌+◌, ltb, Bool, true, false, cond, List, [], ◌∷◌, ◌++◌, length, sym, ap, ◌∙◌, refl, subst, arith, None, Some, inl, inr, Result, Ok, Err}
 use Rattle.std.specs.Prelude.{leb, ◌&&◌, codes}
 use Rattle.std.specs.declared.option.Option.{Option}
 use Rattle.std.specs.List.{All, sum_by}
@@ -15,8 +15,8 @@ use Rattle.wh_text.specs.Readings.{◌>>=◌}
 use Rattle.wh_text.specs.Numbers.{number}
 use Rattle.wh_text.specs.Spellings.{are, letter_of, letter_at, letters_at, word_at}
 use Rattle.wh_text.specs.TupleLines.{items_at, words_at, short_tuple, tuple_at}
-use Rattle.wh_text.specs.Problems.{Sheet, ProblemData, blank_sheet, most_bytes, greatest_rank, rank_at, rank_number, allowed_rank, first_line, later_line, kept_line, line_of_fields, good_line, line_at, lines_at, one_tuple, problem_with, whole, problem}
-use Rattle.wh_text.specs.Laws.{IsClean, IsFirstBadByte, NamesTheFirstBadByte}
+use Rattle.wh_text.specs.Problems.{Sheet, ProblemData, blank_sheet, most_bytes, greatest_rank, rank_at, rank_number, allowed_rank, kept_line, line_of_fields, good_line, line_at, lines_at, one_tuple, problem_with, whole, problem}
+use Rattle.wh_text.specs.Laws.{IsClean, NamesTheFirstBadByte}
 use Rattle.wh_text.proofs.Items.{bind_err}
 use Rattle.wh_text.proofs.TextLaws.{bad_clean}
 

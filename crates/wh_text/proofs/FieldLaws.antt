@@ -1,5 +1,5 @@
 -- The fields of a line are those that it has: for the law on fields.
-use Rattle.std.proofs.Common.{◌≡◌, ◌≢◌, ℕ, zero, suc, ◌+◌, ◌<◌, ◌≤◌, ◌==◌, ◌↔◌, Bool, true, false, cond, List, [], ◌∷◌, ◌++◌, length, map, take, drop, sym, ap, ◌∙◌, refl, subst, arith, inl, inr, add-one}
+use Rattle.std.proofs.Common.{◌≡◌, ◌≢◌, ℕ, zero, suc, ◌+◌, ◌≤◌, ◌==◌, false, List, [], ◌∷◌, ◌++◌, length, map, take, drop, sym, ap, ◌∙◌, refl, subst, arith, inl, inr, add-one}
 use Rattle.std.specs.List.{All}
 use Rattle.std.proofs.lemmas.List.{drop_all, take_all, length-drop}
 use Rattle.std.proofs.lemmas.List.Elements.{All-nil, All-cons, All-head, All-tail}
@@ -7,9 +7,9 @@ use Rattle.std.proofs.lemmas.Bool.{cases_Bool, cond-true, cond-false, eqb-true, 
 use Rattle.std.proofs.Math.Seq.{take-append_seam, take-length}
 use Rattle.wh_text.specs.Lines.{Field, joined, fields}
 use Rattle.wh_text.specs.Scans.{before}
-use Rattle.wh_text.specs.Laws.{IsField, HasFields, field_texts, ReadsFields}
+use Rattle.wh_text.specs.Laws.{IsField, HasFields, ReadsFields}
 use Rattle.wh_text.specs.Laws.HasFields.{none, space, last, field}
-use Rattle.wh_text.proofs.Scanning.{eq_true, eq_false, before_within}
+use Rattle.wh_text.proofs.Scanning.{eq_true, eq_false}
 use Rattle.wh_text.proofs.FieldCuts.{field_front}
 
 abbrev pub IsSolid : List ℕ → Type 0

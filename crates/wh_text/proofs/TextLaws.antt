@@ -1,5 +1,5 @@
 -- A problem of `reduce` is read exactly from a text that states it: for the law on whole texts.
-use Rattle.std.proofs.Common.{◌≡◌, ℕ, suc, ◌+◌, ◌<◌, ◌≤◌, ltb, ◌==◌, Bool, true, false, cond, List, [], ◌∷◌, ◌++◌, length, map, sym, ap, ◌∙◌, refl, subst, arith, None, Some, inl, inr, ◌⊎◌, Result, Ok, Err, append-nil, append_assoc}
+use Rattle.std.proofs.Common.{◌≡◌, ℕ, ◌+◌, ◌≤◌, ltb, ◌==◌, Bool, true, false, cond, List, [], ◌∷◌, ◌++◌, length, map, sym, ap, ◌∙◌, refl, subst, arith, None, Some, inl, inr, Ok, Err, append-nil, append_assoc}
 use Rattle.std.specs.Prelude.{◌||◌, ◌&&◌, codes, decimal}
 use Rattle.std.specs.declared.option.Option.{Option}
 use Rattle.std.specs.List.{All, list_all}
@@ -8,7 +8,6 @@ use Rattle.std.proofs.lemmas.Bool.{cases_Bool, cond-true, cond-false, cond_both,
 use Rattle.wh_words.specs.Tuples.{TupleData}
 use Rattle.wh_text.specs.declared.command.Command.{Command}
 use Rattle.wh_text.specs.declared.command.Command.TheVariants as commands
-use Rattle.wh_text.specs.declared.read_error.ReadError.{ReadError}
 use Rattle.wh_text.specs.declared.read_error.ReadError.TheVariants as errors
 use Rattle.wh_text.specs.Lines.{Field, lines, is_allowed, bad_at, is_comment, joined, fields}
 use Rattle.wh_text.specs.Readings.{◌>>=◌}

@@ -1,6 +1,6 @@
 -- A tuple and a rank are read exactly from the fields that spell them: for the law on whole texts.
-use Rattle.std.proofs.Common.{◌≡◌, ◌≢◌, ℕ, ◌+◌, ◌<◌, ◌≤◌, ltb, ◌==◌, Bool, true, false, cond, List, [], ◌∷◌, length, map, sym, ap, ◌∙◌, refl, subst, arith, None, Some, Result, Ok, Err}
-use Rattle.std.specs.Prelude.{leb, ◌&&◌, codes, decimal}
+use Rattle.std.proofs.Common.{◌≡◌, ◌≢◌, ℕ, ◌+◌, ◌≤◌, ltb, ◌==◌, true, List, [], ◌∷◌, length, map, sym, ap, ◌∙◌, refl, subst, arith, None, Some, Ok, Err}
+use Rattle.std.specs.Prelude.{leb, ◌&&◌, decimal}
 use Rattle.std.specs.declared.option.Option.{Option}
 use Rattle.std.specs.List.{All, sum_by}
 use Rattle.std.proofs.lemmas.List.Elements.{All-nil, All-cons, All-head, All-tail}
@@ -10,7 +10,6 @@ use Rattle.wh_words.specs.Words.{IsOfRank}
 use Rattle.wh_words.specs.CyclicWords.{cyclic_word}
 use Rattle.wh_words.specs.Tuples.{TupleData}
 use Rattle.wh_text.specs.declared.command.Command.TheVariants as commands
-use Rattle.wh_text.specs.declared.read_error.ReadError.{ReadError}
 use Rattle.wh_text.specs.declared.read_error.ReadError.TheVariants as errors
 use Rattle.wh_text.specs.Lines.{Field, joined, fields}
 use Rattle.wh_text.specs.Readings.{◌>>=◌}

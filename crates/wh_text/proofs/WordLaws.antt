@@ -1,5 +1,5 @@
 -- Letters and words are read exactly from their text: for the laws on letters and words.
-use Rattle.std.proofs.Common.{◌≡◌, ◌≢◌, ℕ, suc, ◌+◌, ◌*◌, ◌/◌, ◌%◌, ◌<◌, ◌≤◌, ◌==◌, Bool, true, false, cond, List, [], ◌∷◌, ◌++◌, length, map, sym, ap, ◌∙◌, refl, subst, arith, None, Some, Result, Ok, Err, inl, inr, ◌⊎◌}
+use Rattle.std.proofs.Common.{◌≡◌, ◌≢◌, ℕ, ◌+◌, ◌*◌, ◌/◌, ◌%◌, ◌<◌, ◌≤◌, ◌==◌, Bool, true, false, cond, List, [], ◌∷◌, map, ap, ◌∙◌, refl, subst, arith, None, Some, Ok, Err, inl, inr}
 use Rattle.std.specs.Prelude.{◌&&◌, codes}
 use Rattle.std.specs.declared.option.Option.{Option}
 use Rattle.std.specs.List.{All}
@@ -7,10 +7,9 @@ use Rattle.std.proofs.lemmas.List.Elements.{All-nil, All-cons, All-head, All-tai
 use Rattle.std.proofs.lemmas.Bool.Decides.{nat_tests}
 use Rattle.std.proofs.lemmas.Bool.{cond-false, cond_both, eqb-true, false≢true}
 use lib.Pointwise.{pointwise}
-use Rattle.wh_text.specs.declared.read_error.ReadError.{ReadError}
 use Rattle.wh_text.specs.declared.read_error.ReadError.TheVariants as errors
 use Rattle.wh_text.specs.Readings.{◌>>=◌}
-use Rattle.wh_text.specs.Spellings.{are, letter_of, letter_text, letter_at, letters_at, word_at, word_text}
+use Rattle.wh_text.specs.Spellings.{are, letter_of, letter_text, letter_at, letters_at, word_text}
 use Rattle.wh_text.specs.Laws.{ReadsLetters, ReadsWords, NamesTheFirstBadLetter, IsFirstBadLetter}
 use Rattle.wh_text.proofs.Scanning.{eq_false}
 use Rattle.wh_text.proofs.NumberLaws.{both_true}

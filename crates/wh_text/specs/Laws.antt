@@ -1,5 +1,5 @@
 -- The laws of reading, in the words of what is written: what is read is spelled so, and what is spelled so is read.
-use Rattle.std.specs.Prelude.{◌≡◌, ◌≢◌, ◌||◌, ℕ, ◌+◌, ◌*◌, ◌^◌, ◌<◌, ◌≤◌, ◌==◌, ◌&&◌, ◌↔◌, Bool, true, false, cond, List, [], ◌∷◌, ◌++◌, length, map, take, Some, None, Ok, Err, decimal, codes}
+use Rattle.std.specs.Prelude.{◌≡◌, ◌≢◌, ◌||◌, ℕ, ◌+◌, ◌^◌, ◌<◌, ◌≤◌, ◌==◌, ◌↔◌, Bool, true, false, cond, List, [], ◌∷◌, ◌++◌, length, map, Some, None, Ok, Err, decimal, codes}
 use Rattle.std.specs.List.{All, list_all, sum_by}
 use Rattle.wh_words.specs.Words.{IsOfRank}
 use Rattle.wh_words.specs.CyclicWords.{cyclic_word}
