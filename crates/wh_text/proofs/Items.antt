@@ -1,5 +1,5 @@
 -- Reading letters and words one after the other.
-use Rattle.std.proofs.Common.{◌≡◌, ℕ, suc, ◌+◌, ◌*◌, ◌<◌, ◌≤◌, ltb, Bool, true, false, cond, List, [], ◌∷◌, ◌++◌, length, map, get_or, drop, sym, ap, ◌∙◌, refl, subst, arith, None, Some, append-nil, append_assoc, Result, Ok, Err}
+use Rattle.std.proofs.Common.{◌≡◌, ℕ, suc, ◌+◌, ◌*◌, ◌<◌, ◌≤◌, ltb, Bool, true, false, cond, List, [], ◌∷◌, ◌++◌, length, map, get_or, drop, sym, ap, ◌∙◌, refl, subst, arith, None, Some, append-nil, append_assoc, Result, Ok, Err, inl, inr, ◌⊎◌}
 use Rattle.std.specs.Prelude.{codes}
 use Rattle.std.specs.declared.option.Option.{Option}
 use Rattle.std.specs.List.{All, sum_by}
@@ -33,6 +33,10 @@ pub bind_ok : {A B : Type 0} (r : Result A ReadError) (f : A → Result B ReadEr
 bind_ok (Ok x) f y e = (x, refl, e)
 bind_ok (Err d) f y e = absurd (cc)
 
+pub bind_err : {A B : Type 0} (r : Result A ReadError) (f : A → Result B ReadError) (d : ReadError) → (r >>= f) ≡ Err d → (r ≡ Err d) ⊎ ((x : A) × (r ≡ Ok x) × (f x ≡ Err d))
+bind_err (Ok x) f d e = inr (x, refl, e)
+bind_err (Err g) f d e = inl (cc)
+
 pub ok_is : {A : Type 0} (x y : A) → ◌≡◌ {A = Result A ReadError} (Ok x) (Ok y) → x ≡ y
 ok_is x y e = cc
 
@@ -64,7 +68,7 @@ letters_end n l c bs out i at le h = sym h ∙ ap (λ r. with_front out (letters
 letter_small : (n b x : ℕ) → n ≤ 26 → letter_of n b ≡ Some x → x < 2 * n
 letter_small n b x h e = grind (arith, nat_tests)
 
-letter_some : (n l c : ℕ) (o : Option ℕ) (x : ℕ) → letter_at l c o ≡ Ok x → o ≡ Some x
+pub letter_some : (n l c : ℕ) (o : Option ℕ) (x : ℕ) → letter_at l c o ≡ Ok x → o ≡ Some x
 letter_some n l c None x e = absurd (cc)
 letter_some n l c (Some y) x e = ap (λ v. Some v) (ok_is y x e)
 

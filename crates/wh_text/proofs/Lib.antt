@@ -5,3 +5,11 @@ pub mod Digits
 pub mod Items
 pub mod Sheets
 pub mod SetTexts
+pub mod NumberLaws
+pub mod WordLaws
+pub mod LineLaws
+pub mod FieldLaws
+pub mod Equations
+pub mod TupleLaws
+pub mod TextLaws
+pub mod BadByteLaws

@@ -4,6 +4,7 @@
 mod answer;
 mod command;
 mod field;
+pub mod laws;
 mod line;
 mod number;
 mod printer;

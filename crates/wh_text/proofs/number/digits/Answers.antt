@@ -1,4 +1,4 @@
-use Rattle.std.proofs.Common.{rules, ◌≡◌, arith, get_or}
+use Rattle.std.proofs.Common.{rules, arith, get_or}
 use Rattle.wh_text.proofs.Digits.{digits_more, digits_none}
 use Rattle.wh_text.proofs.number.digits.Goals as goal
 

@@ -1,7 +1,6 @@
-use Rattle.std.proofs.Common.{◌≡◌, ◌++◌, map, take}
+use Rattle.std.proofs.Common.{◌≡◌, ◌++◌, take}
 use Rattle.std.specs.List.{flat_map}
-use Rattle.wh_text.specs.Spellings.{letter_text}
-use Rattle.wh_text.specs.AnswerTexts.{word_field, move_field, set_below}
+use Rattle.wh_text.specs.AnswerTexts.{move_field}
 use Rattle.wh_text.proofs.printer.push_moves.Given as goal
 
 abbrev pub invariant-loop-m : goal.invariant-loop-m

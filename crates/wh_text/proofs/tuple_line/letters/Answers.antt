@@ -1,6 +1,5 @@
-use Rattle.std.proofs.Common.{rules, ◌≡◌, ◌+◌, arith, ap, ◌∙◌, sym, drop, get_or}
-use Rattle.wh_text.specs.Spellings.{letters_at}
-use Rattle.wh_text.proofs.Items.{with_front, letters_more, letters_none}
+use Rattle.std.proofs.Common.{rules, arith, get_or}
+use Rattle.wh_text.proofs.Items.{letters_more, letters_none}
 use Rattle.wh_text.proofs.tuple_line.letters.Goals as goal
 
 pub returns-in-None : goal.returns-in-None

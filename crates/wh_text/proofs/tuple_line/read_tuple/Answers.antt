@@ -1,8 +1,6 @@
-use Rattle.std.proofs.Common.{rules, ◌≡◌, map, arith, ap, ◌∙◌, sym, subst, length, List, ℕ, Ok}
-use Rattle.std.specs.List.{All, sum_by}
-use Rattle.wh_words.specs.Words.{IsOfRank}
+use Rattle.std.proofs.Common.{rules, ◌≡◌, arith, Ok}
 use Rattle.wh_text.specs.TupleLines.{words_at}
-use Rattle.wh_text.proofs.Items.{AreRead, words_read}
+use Rattle.wh_text.proofs.Items.{words_read}
 use Rattle.wh_text.proofs.tuple_line.read_tuple.Goals as goal
 
 pub short_tuple-requires-clause-total : goal.short_tuple-requires-clause-total

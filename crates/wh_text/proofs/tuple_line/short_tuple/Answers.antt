@@ -1,4 +1,4 @@
-use Rattle.std.proofs.Common.{rules, ◌≡◌, map, arith, ap, ◌∙◌, sym, subst, length, List, ℕ}
+use Rattle.std.proofs.Common.{rules, ◌≡◌, map, arith, ap, sym, subst, length}
 use Rattle.std.specs.List.{All, sum_by}
 use Rattle.wh_words.specs.Words.{free_reduction, IsOfRank}
 use Rattle.wh_words.specs.CyclicWords.{cyclic_word}

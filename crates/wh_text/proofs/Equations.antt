@@ -1,0 +1,44 @@
+-- What an equation between results tells of their parts: for the laws on texts.
+use Rattle.std.proofs.Common.{◌≡◌, ℕ, ◌==◌, ◌≤◌, ltb, Bool, true, false, cond, List, [], ◌∷◌, map, refl, ap, ◌∙◌, arith, Result, Ok, Err}
+use Rattle.std.specs.Prelude.{◌&&◌}
+use Rattle.std.proofs.lemmas.Bool.{eqb-true, false≢true}
+use Rattle.std.proofs.lemmas.Bool.Decides.{nat_tests}
+use Rattle.wh_text.specs.declared.read_error.ReadError.{ReadError}
+use Rattle.wh_text.specs.Lines.{Field}
+use Rattle.wh_text.specs.Spellings.{are}
+use Rattle.wh_text.proofs.Scanning.{eq_true}
+use Rattle.wh_text.proofs.NumberLaws.{both_true}
+
+pub unless_ok : {A : Type 0} (t : Bool) (e : ReadError) (r : Result A ReadError) (x : A) → cond t (Err e) r ≡ Ok x → (t ≡ false) × (r ≡ Ok x)
+unless_ok true e r x h = absurd (cc)
+unless_ok false e r x h = (refl, h)
+
+pub if_ok : {A : Type 0} (t : Bool) (e : ReadError) (r : Result A ReadError) (x : A) → cond t r (Err e) ≡ Ok x → (t ≡ true) × (r ≡ Ok x)
+if_ok true e r x h = (refl, h)
+if_ok false e r x h = absurd (cc)
+
+pub not_more : (a b : ℕ) → ltb a b ≡ false → b ≤ a
+not_more a b e = grind (arith, nat_tests)
+
+pub is_not_more : (a b : ℕ) → b ≤ a → ltb a b ≡ false
+is_not_more a b h = grind (arith, nat_tests)
+
+pub are_is : (bs text : List ℕ) → are bs text ≡ true → bs ≡ text
+are_is [] [] e = refl
+are_is [] (d ∷ ds) e = absurd (false≢true e)
+are_is (b ∷ bs) [] e = absurd (false≢true e)
+are_is (b ∷ bs) (d ∷ ds) e =
+    let p = both_true (b == d) (are bs ds) e in
+    ap (λ x. x ∷ bs) (eqb-true b d p.0) ∙ ap (λ v. d ∷ v) (are_is bs ds p.1)
+
+are_self : (text : List ℕ) → are text text ≡ true
+are_self [] = refl
+are_self (d ∷ ds) = ap (λ t. t && are ds ds) (eq_true d d refl) ∙ are_self ds
+
+pub are_back : (bs text : List ℕ) → bs ≡ text → are bs text ≡ true
+are_back bs text e = ap (λ v. are v text) e ∙ are_self text
+
+-- the first of some fields, and the others
+pub split_fields : (fs : List Field) (w : List ℕ) (ws : List (List ℕ)) → map (λ f. f.bytes) fs ≡ w ∷ ws → (keyword : Field) × (rest : List Field) × (fs ≡ keyword ∷ rest) × (keyword.bytes ≡ w) × (map (λ f. f.bytes) rest ≡ ws)
+split_fields [] w ws e = absurd (cc)
+split_fields (f ∷ fs) w ws e = (f, fs, refl, (cc), (cc))
