@@ -8,6 +8,7 @@ pub mod Moves
 pub mod Images
 pub mod Action
 pub mod Edges
+pub mod Flows
 pub mod Traces
 pub mod Laws
 -- How this crate keeps and writes words.
