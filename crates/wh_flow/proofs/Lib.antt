@@ -5,3 +5,8 @@ pub mod FirstFlows
 pub mod Cells
 pub mod Entries
 pub mod NetEdges
+pub mod Pushes
+pub mod Searching
+pub mod Reached
+pub mod Rounds
+pub mod Rerouted
