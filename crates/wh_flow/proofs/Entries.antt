@@ -53,4 +53,3 @@ pushed-flow c f g s t d fl w m = record { within = w; conserved = λ x h i j. om
 
 pub pushed-value : (f g : ℕ → ℕ → ℕ) (s t d : ℕ) → s < 52 → s ≢ t → IsMoved f g s t d → outflow g s + inflow f s ≡ outflow f s + inflow g s + d
 pushed-value f g s t d l e m = omega (arith, m s l, at-here s d, at-other s t d e)
-

@@ -5,6 +5,7 @@ use Rattle.std.proofs.lemmas.List.{length-replicate}
 use Rattle.wh_words.specs.Flows.{sum_below}
 use Rattle.wh_words.specs.Edges.{joins}
 use Rattle.wh_flow.specs.Nets.{Net, IsNet, cell, edge_count}
+use Rattle.wh_flow.specs.Searches.{IsOfLetters}
 use Rattle.wh_flow.proofs.Sums.{sum-same, sum-one, sum-zero, sum-part}
 use Rattle.wh_flow.proofs.Cells.{cell-zero}
 
@@ -108,3 +109,8 @@ cell_few net n x y i j = elim (cases_lt x y) [
   where
     above : (u v : ℕ) → u < v → v < 52 → cell net.cells u v ≤ 4096
     above u v h k = omega (arith, n.few, sum-part 52 v (λ b. sum_below b (λ a. cell net.cells a b)) k, sum-part v u (λ a. cell net.cells a v) h)
+
+-- Letters past the rank have no edges.
+pub net_letters : (net : Net) → IsNet net → IsOfLetters (2 * net.rank) net.cells
+net_letters net n x y i j (inl h) = n.of_rank x y i j h
+net_letters net n x y i j (inr h) = n.symmetric x y i j ∙ n.of_rank y x j i h

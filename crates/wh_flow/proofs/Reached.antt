@@ -106,3 +106,7 @@ reached_cut cap f new s t hs ht ne fl gr q led = searched_least cap f new s t ai
 
     aimed : IsSearched cap f 0 new 0 s t
     aimed = record { start = q.start; omits = λ _. omitted; shut = q.shut; least = q.least }
+
+-- A search with nothing seen, along all pairs.
+pub searched_from_start : (cap f : List ℕ) (none new from s t : ℕ) → none ≡ 0 → from ≡ 0 → IsSearched cap f none new from s t → IsSearched cap f 0 new 0 s t
+searched_from_start cap f none new from s t e k q = subst (λ (m : ℕ). IsSearched cap f m new 0 s t) e (subst (λ (m : ℕ). IsSearched cap f none new m s t) k q)

@@ -58,7 +58,6 @@ nets_on f g h a b v l = omega (arith, a v l, b v l)
 pub agree_on : (k : ℕ) (f g h : ℕ → ℕ → ℕ) → AgreeBefore k f g → AgreeBefore k g h → AgreeBefore k f h
 agree_on k f g h a b x y i j l = a x y i j l ∙ b x y i j l
 
-
 -- Pairs past the rank, where nothing flows.
 pub first_past : (letters k m : ℕ) (cap f : List ℕ) → IsOfLetters letters cap → IsWithin (cell cap) (cell f) → IsFirstUpTo k (cell cap) (cell f)
     → ((x y : ℕ) → x < 52 → y < 52 → k ≤ place x y → place x y < m → letters ≤ x ⊎ letters ≤ y) → IsFirstUpTo m (cell cap) (cell f)

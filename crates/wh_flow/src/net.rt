@@ -2,6 +2,7 @@
 ghost use Rattle.std.specs.Prelude.{◌≡◌, ◌≢◌, ℕ, ◌+◌, ◌*◌, ◌<◌, ◌≤◌, cond, length, replicate};
 ghost use Rattle.wh_words.specs.Edges.{joins};
 ghost use Rattle.wh_flow.specs.Nets.{cell, edge_count, IsNet};
+ghost use Rattle.wh_flow.specs.Searches.{IsOfLetters};
 
 use std::marker::Model;
 use wh_words::{Letter, Rank};
@@ -67,12 +68,21 @@ impl Net {
         write_edge(&mut self.cells, x.index() as usize, y.index() as usize);
     }
 
-    /// The table of capacities, row by row, for the searches of this crate.
+    /// The capacities, row by row.
     pub(crate) fn cells(&self) -> &[u32]
         ensures cells { result.now ≡ self.now.cells }
-        ensures net { IsNet self.now }
+        ensures size { length result.now ≡ 2704 }
+        ensures of_letters { IsOfLetters (2 * self.now.rank) result.now }
     {
         &self.cells
+    }
+
+    /// How many letters the rank has.
+    pub(crate) fn letters(&self) -> usize
+        ensures value { result ≡ 2 * self.now.rank }
+        ensures few { result ≤ 52 }
+    {
+        2 * self.rank.get() as usize
     }
 }
 
