@@ -1,5 +1,5 @@
 -- Max-flow and min-cut: no flow has a greater value than the capacity of a set that separates, and one that leaves no residual edge out of the set has just that value.
-use Rattle.std.proofs.Common.{◌≡◌, ◌≢◌, ℕ, ◌+◌, ◌<◌, ◌≤◌, Bool, true, false, not, refl, sym, ap, ◌∙◌, subst, inl, inr, ◌↔◌, arith}
+use Rattle.std.proofs.Common.{◌≡◌, ◌≢◌, ℕ, ◌+◌, ◌<◌, ◌≤◌, Bool, true, false, refl, sym, ap, ◌∙◌, subst, inl, inr, ◌↔◌, arith}
 use Rattle.std.proofs.lemmas.Bool.{cases_Bool, cases_eq, true≢false}
 use Rattle.wh_words.specs.Flows.{sum_below, where_in, outflow, inflow, capacity_of_set, IsFlow, Separates, IsClosed, HasValue, IsMaximum, IsLeastCut, HaveOneValue, FillsLeastCut, IsMinimumCut, degree}
 use Rattle.wh_flow.specs.Rerouting.{HaveOneNetFlow}

@@ -1,7 +1,9 @@
 -- The steps of a search, and what it knows at its end.
-use Rattle.std.proofs.Common.{◌≡◌, ◌≢◌, ℕ, ◌+◌, ◌<◌, ◌≤◌, ◌==◌, Bool, true, false, cond, refl, sym, ap, ◌∙◌, subst, inl, inr, ◌⊎◌, arith, List}
-use Rattle.std.proofs.lemmas.Bool.{cases_Bool, cases_eq, cases_lt, true≢false}
+use Rattle.std.proofs.Common.{◌≡◌, ◌≢◌, ℕ, ◌+◌, ◌-◌, ◌^◌, ◌<◌, ◌≤◌, ◌==◌, bit_and, Bool, true, false, cond, refl, sym, ap, ◌∙◌, subst, inl, inr, ◌⊎◌, arith, List}
+use Rattle.std.proofs.lemmas.Bool.{cases_Bool, cases_eq, cases_lt, true≢false, eqb-false}
 use Rattle.std.specs.Int.{bit_at}
+use Rattle.std.specs.Int.Bits.{mask_lt}
+use Rattle.std.proofs.lemmas.Nat.Bits.{bit_at_and, bit_at_ones, bit_at_ones_above, bit_at-lt, same_from_bits}
 use Rattle.wh_words.specs.LetterSets.{in_set}
 use Rattle.wh_words.specs.Flows.{IsWithin}
 use Rattle.wh_flow.specs.Nets.{cell}
@@ -41,6 +43,19 @@ module _ (old new v : ℕ) (same : bit_at new v ≡ 1) (others : (i : ℕ) → i
       less true false f = absurd (true≢false (sym (f refl)))
       less false true f = omega arith
       less false false f = omega arith
+
+-- A set of the first k letters is a number below 2 ^ k.
+pub small_set : (set k : ℕ) → ((i : ℕ) → k ≤ i → in_set set i ≡ false) → set < 2 ^ k
+small_set set k none = subst (λ (m : ℕ). m < 2 ^ k) (sym same) (mask_lt set k)
+  where
+    bits : (i : ℕ) → bit_at set i ≡ bit_at (bit_and set (2 ^ k - 1)) i
+    bits i = elim (cases_lt i k) [
+      | inl l ↦ omega (arith, bit_at_and set (2 ^ k - 1) i, bit_at_ones k i l, bit_at-lt set i)
+      | inr l ↦ omega (arith, bit_at_and set (2 ^ k - 1) i, bit_at_ones_above k i (omega (arith, l)), bit_at-lt set i, eqb-false (bit_at set i) 1 (none i (omega (arith, l))))
+    ]
+
+    same : set ≡ bit_and set (2 ^ k - 1)
+    same = same_from_bits set (bit_and set (2 ^ k - 1)) bits
 
 -- ---- the steps of a search
 module _ (cap flow : List ℕ) (old : ℕ) (from v t : ℕ) where

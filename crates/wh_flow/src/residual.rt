@@ -1,5 +1,5 @@
 //! What residual edges lead to, and the least cut.
-ghost use Rattle.std.specs.Prelude.{◌≡◌, ◌≢◌, ℕ, ◌*◌, ◌<◌, ◌≤◌, length, true, false};
+ghost use Rattle.std.specs.Prelude.{◌≡◌, ◌≢◌, ℕ, ◌*◌, ◌^◌, ◌<◌, ◌≤◌, length, true, false};
 ghost use Rattle.std.specs.Int.{bit_at};
 ghost use Rattle.wh_words.specs.LetterSets.{in_set};
 ghost use Rattle.wh_words.specs.Flows.{IsWithin, IsFlow, IsMaximum, IsLeastCut, IsReach};
@@ -17,7 +17,7 @@ pub fn reach(net: &Net, flow: &Flow, v: Letter) -> LetterSet
     requires of_rank { v < 2 * net.now.rank }
     requires within { IsWithin (cell net.now.cells) (cell flow.now) }
     ensures reach { IsReach (cell net.now.cells) (cell flow.now) v (in_set result) }
-    ensures of_rank { (x : ℕ) → 2 * net.now.rank ≤ x → in_set result x ≡ false }
+    ensures of_rank { result < 2 ^ (2 * net.now.rank) }
 {
     reached(net.cells(), &flow.cells, net.letters(), v.index() as usize)
 }
@@ -30,7 +30,7 @@ pub fn least_cut(net: &Net, flow: &Flow, s: Letter, t: Letter) -> LetterSet
     requires flow { IsFlow (cell net.now.cells) (cell flow.now) s t }
     requires maximum { IsMaximum (cell net.now.cells) (cell flow.now) s t }
     ensures cut { IsLeastCut (cell net.now.cells) s t (in_set result) }
-    ensures of_rank { (x : ℕ) → 2 * net.now.rank ≤ x → in_set result x ≡ false }
+    ensures of_rank { result < 2 ^ (2 * net.now.rank) }
 {
     t.index();
     reached(net.cells(), &flow.cells, net.letters(), s.index() as usize)
@@ -46,7 +46,7 @@ fn reached(cap: &[u32], flow: &[u32], letters: usize, v: usize) -> LetterSet
     requires of_letters { IsOfLetters letters cap.now }
     ensures reach { IsReach (cell cap.now) (cell flow.now) v (in_set result) }
     ensures cut { (t : ℕ) → t < 52 → v ≢ t → IsFlow (cell cap.now) (cell flow.now) v t → IsMaximum (cell cap.now) (cell flow.now) v t → IsLeastCut (cell cap.now) v t (in_set result) }
-    ensures of_letters { (x : ℕ) → letters ≤ x → in_set result x ≡ false }
+    ensures of_letters { result < 2 ^ letters }
 {
     let mut seen = LetterSet::empty();
     visit(cap, flow, letters, &mut seen, v);

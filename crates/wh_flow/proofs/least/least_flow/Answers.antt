@@ -1,4 +1,4 @@
-use Rattle.std.proofs.Common.{◌≡◌, ℕ, arith, sym, subst, List}
+use Rattle.std.proofs.Common.{ℕ, sym, subst, List}
 use Rattle.wh_words.specs.Flows.{IsFlow, IsFirstFlow}
 use Rattle.wh_flow.specs.Nets.{cell}
 use Rattle.wh_flow.proofs.least.least_flow.Goals as goal

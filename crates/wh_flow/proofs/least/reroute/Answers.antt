@@ -1,4 +1,4 @@
-use Rattle.std.proofs.Common.{arith, ◌≡◌, ◌+◌, ◌*◌, ℕ, subst}
+use Rattle.std.proofs.Common.{arith, ◌+◌, ◌*◌, ℕ, subst}
 use Rattle.wh_flow.specs.Searches.{IsSearched}
 use Rattle.wh_flow.proofs.Rerouted.{searched_least_at, turned_nets}
 use Rattle.wh_flow.proofs.least.reroute.Goals as goal

@@ -1,4 +1,4 @@
-use Rattle.std.proofs.Common.{◌≡◌, ◌<◌, length}
+use Rattle.std.proofs.Common.{◌≡◌, ◌<◌}
 use Rattle.wh_flow.specs.Searches.{unseen, Grew, IsSearching}
 use Rattle.wh_flow.proofs.search.Search.+push.Given as goal
 
