@@ -6,7 +6,7 @@ use Rattle.wh_words.specs.Flows.{outflow, inflow, IsWithin, IsFlow}
 use Rattle.wh_flow.specs.Rerouting.{HaveOneNetFlow, IsMoved, at}
 use Rattle.wh_flow.proofs.Sums.{sum-same, sum-one}
 
--- g is f but for d more at (p, q)
+-- The table g is f but for d more at (p, q).
 module _ (f g : ℕ → ℕ → ℕ) (p q d : ℕ) (hp : p < 52) (hq : q < 52)
     (same : (x y : ℕ) → x < 52 → y < 52 → (x ≢ p) ⊎ (y ≢ q) → g x y ≡ f x y) (more : g p q ≡ f p q + d) where
   pub out-raised : (v : ℕ) → v < 52 → outflow g v ≡ outflow f v + at v p d
@@ -38,7 +38,7 @@ moved-back f g h p q d a b v l = omega (arith, a v l, b v l)
 pub nets-on : (f g h : ℕ → ℕ → ℕ) → HaveOneNetFlow f g → HaveOneNetFlow g h → HaveOneNetFlow f h
 nets-on f g h a b v l = omega (arith, a v l, b v l)
 
--- a flow stays one
+-- A flow stays one.
 pub still-flow : (c f g : ℕ → ℕ → ℕ) (s t : ℕ) → IsFlow c f s t → IsWithin c g → HaveOneNetFlow f g → IsFlow c g s t
 still-flow c f g s t fl w e = record { within = w; conserved = λ x h i j. omega (arith, fl.conserved x h i j, e x h) }
 

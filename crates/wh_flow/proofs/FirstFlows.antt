@@ -8,7 +8,7 @@ use Rattle.wh_flow.proofs.Cells.{place-same}
 use Rattle.wh_flow.proofs.Cuts.{one-net-flow, balance}
 
 module _ (c f : ℕ → ℕ → ℕ) where
-  -- a set that no residual edge after the pair leaves, with the first letter of the pair and not the second
+  -- A set that no residual edge after the pair leaves, with the first letter of the pair and not the second.
   pub stuck : (g : ℕ → ℕ → ℕ) (x y : ℕ) (set : ℕ → Bool) → IsWithin c g → HaveOneNetFlow f g → x < 52 → y < 52 → set x ≡ true → set y ≡ false
       → IsClosedFrom (place x y + 1) c f set → AgreeBefore (place x y) f g → f x y ≤ g x y
   stuck g x y set gw nets h i p q cl ag = elim (cases_lt (g x y) (f x y)) [
@@ -41,7 +41,7 @@ module _ (c f : ℕ → ℕ → ℕ) where
         ]
       ]
 
-  -- the next pair
+  -- The next pair.
   pub first-more : (x y : ℕ) → x < 52 → y < 52 → IsFirstUpTo (place x y) c f
       → ((g : ℕ → ℕ → ℕ) → IsWithin c g → HaveOneNetFlow f g → AgreeBefore (place x y) f g → f x y ≤ g x y) → IsFirstUpTo (place x y + 1) c f
   first-more x y h i before here g gw nets u w j k l ag = elim (cases_eq (place u w) (place x y)) [
@@ -50,7 +50,7 @@ module _ (c f : ℕ → ℕ → ℕ) where
     | inr e ↦ before g gw nets u w j k (omega (arith, l, e)) ag
   ]
 
-  -- a table that is the same before the place, with the same net outflows, is as good
+  -- A table that is the same before the place, with the same net outflows, is as good.
   pub first-kept : (h : ℕ → ℕ → ℕ) (k : ℕ) → IsFirstUpTo k c f → HaveOneNetFlow f h → AgreeBefore k f h → IsFirstUpTo k c h
   first-kept h k fi nets ag g gw hg x y i j l a =
       omega (
@@ -65,7 +65,7 @@ module _ (c f : ℕ → ℕ → ℕ) where
     first = λ g gl w x y h i ag. fi g gl.within (one-net-flow c f g s t l fl gl w) x y h i (omega (arith, h, i)) ag;
   }
 
--- two tables agree up to a place, or the one comes before the other
+-- Two tables agree up to a place, or the one comes before the other.
 pub compared : (f g : ℕ → ℕ → ℕ) → ((x y : ℕ) → x < 52 → y < 52 → AgreeBefore (place x y) f g → f x y ≤ g x y) → (k : ℕ) → AgreeBefore k f g ⊎ IsBefore f g
 compared f g le zero = inl (λ x y h i l. absurd (omega (arith, l)))
 compared f g le (suc k) = next (compared f g le k)
@@ -99,7 +99,7 @@ compared f g le (suc k) = next (compared f g le k)
       ]
     ]
 
--- the first flow of a value comes before each other flow of it, or is the same
+-- The first flow of a value comes before each other flow of it, or is the same.
 pub first-before : (c f : ℕ → ℕ → ℕ) (s t : ℕ) → IsFirstFlow c f s t → (g : ℕ → ℕ → ℕ) → IsFlow c g s t → HaveOneValue f g s
     → ((x y : ℕ) → x < 52 → y < 52 → f x y ≡ g x y) ⊎ IsBefore f g
 first-before c f s t fi g gl w = elim (compared f g (λ x y h i ag. fi.first g gl w x y h i ag) 2704) [
@@ -107,7 +107,7 @@ first-before c f s t fi g gl w = elim (compared f g (λ x y h i ag. fi.first g g
   | inr b ↦ inr b
 ]
 
--- there is one first flow of a value
+-- There is one first flow of a value.
 pub first-one : (c f g : ℕ → ℕ → ℕ) (s t : ℕ) → IsFirstFlow c f s t → IsFirstFlow c g s t → HaveOneValue f g s → (x y : ℕ) → x < 52 → y < 52 → f x y ≡ g x y
 first-one c f g s t fi gi w = elim (first-before c f s t fi g gi.flow w) [
   | inl e ↦ e

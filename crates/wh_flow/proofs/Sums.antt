@@ -28,7 +28,7 @@ unfolding sum_below
 sum-swap zero n f = sym (sum-zero n)
 sum-swap (suc m) n f = ap (λ k. k + sum_below n (λ y. f m y)) (sum-swap m n f) ∙ sym (sum-add n (λ y. sum_below m (λ x. f x y)) (λ y. f m y))
 
--- two sums that differ at one place
+-- Two sums that differ at one place.
 pub sum-at : (n s : ℕ) (f g : ℕ → ℕ) → s < n → ((k : ℕ) → k < n → k ≢ s → f k ≡ g k) → sum_below n f + g s ≡ sum_below n g + f s
 unfolding sum_below
 sum-at zero s f g l e = absurd (omega arith)
@@ -41,7 +41,7 @@ sum-at (suc n) s f g l e = elim (cases_eq s n) [
 pub sum-one : (n s v : ℕ) (f g : ℕ → ℕ) → s < n → ((k : ℕ) → k < n → k ≢ s → f k ≡ g k) → f s ≡ g s + v → sum_below n f ≡ sum_below n g + v
 sum-one n s v f g l e h = omega (arith, h, sum-at n s f g l e)
 
--- equal sums that agree elsewhere agree here
+-- Equal sums that agree elsewhere agree here.
 pub sum-rest : (n t : ℕ) (f g : ℕ → ℕ) → t < n → ((k : ℕ) → k < n → k ≢ t → f k ≡ g k) → sum_below n f ≡ sum_below n g → f t ≡ g t
 sum-rest n t f g l e h = omega (arith, h, sum-at n t f g l e)
 
@@ -54,7 +54,7 @@ sum-less (suc n) k f g l e h = elim (cases_eq k n) [
   | inr q ↦ omega (arith, sum-less n k f g (omega arith) (λ i j. e i (omega arith)) h, e n (omega arith))
 ]
 
--- terms that aren't above, with equal sums, are equal
+-- Terms that aren't above, with equal sums, are equal.
 pub sum-tight : (n k : ℕ) (f g : ℕ → ℕ) → k < n → ((i : ℕ) → i < n → f i ≤ g i) → sum_below n g ≤ sum_below n f → f k ≡ g k
 sum-tight n k f g l e h = elim (cases_eq (f k) (g k)) [
   | inl q ↦ q
