@@ -10,6 +10,7 @@ pub mod Action
 pub mod Edges
 pub mod Flows
 pub mod Traces
+pub mod CapacityTraces
 pub mod Laws
 -- How this crate keeps and writes words.
 pub mod Storage
