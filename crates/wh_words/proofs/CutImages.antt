@@ -60,10 +60,10 @@ module _ (a : ℕ) (has : ℕ → Bool) where
   last_or_get p [] = refl
   last_or_get p (x ∷ w) = last_or_get x w
 
-  last_is : (x : ℕ) (w : List ℕ) → get_or (x ∷ w) (length (x ∷ w) - 1) 0 ≡ last_or a has x w
+  pub last_is : (x : ℕ) (w : List ℕ) → get_or (x ∷ w) (length (x ∷ w) - 1) 0 ≡ last_or a has x w
   last_is x w = let e : length (x ∷ w) - 1 ≡ length w = omega arith in ap (λ i. get_or (x ∷ w) i 0) e ∙ sym (last_or_get x w)
 
-  follows : (x : ℕ) (w : List ℕ) → IsCyclicallyReduced (x ∷ w) → IsReduced (last_or a has x w ∷ x ∷ w)
+  pub follows : (x : ℕ) (w : List ℕ) → IsCyclicallyReduced (x ∷ w) → IsReduced (last_or a has x w ∷ x ∷ w)
   follows x [] r = (λ e. inverse-other x (sym e), r.0)
   follows x (y ∷ w) r =
       (λ e. true≢false (sym (ends_meet (x ∷ y ∷ w) (omega arith) (last_is x (y ∷ w) ∙ (sym (inverse-inverse (last_or a has y w)) ∙ ap inverse_letter (sym e)))) ∙ r.1), r.0)

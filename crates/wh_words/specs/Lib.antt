@@ -8,7 +8,9 @@ pub mod Moves
 pub mod Images
 pub mod Action
 pub mod Edges
+pub mod Flows
 pub mod Traces
+pub mod CapacityTraces
 pub mod Laws
 -- How this crate keeps and writes words.
 pub mod Storage

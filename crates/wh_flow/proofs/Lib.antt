@@ -1,0 +1,12 @@
+pub mod Sums
+pub mod SetSums
+pub mod Cuts
+pub mod FirstFlows
+pub mod Cells
+pub mod Entries
+pub mod NetEdges
+pub mod Pushes
+pub mod Searching
+pub mod Reached
+pub mod Rounds
+pub mod Rerouted

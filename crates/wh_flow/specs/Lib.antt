@@ -1,0 +1,5 @@
+pub mod Nets
+pub mod Laws
+-- How this crate searches for flows.
+pub mod Rerouting
+pub mod Searches

@@ -1,0 +1,25 @@
+-- Networks on the letters of a rank, after Ford and Fulkerson.
+use Rattle.std.specs.Prelude.{◌≡◌, ℕ, ◌+◌, ◌*◌, ◌<◌, ◌≤◌, List, length, get_or}
+use Rattle.wh_words.specs.Flows.{sum_below}
+
+-- The number for two letters in a table of 52 rows of 52 numbers.
+abbrev pub cell : List ℕ → ℕ → ℕ → ℕ
+cell cells x y = get_or cells (52 * x + y) 0
+
+-- A rank, and the number of edges between each two letters.
+pub record Net : Type 0 where
+  pub rank : ℕ
+  pub cells : List ℕ
+
+-- The number of edges of a network. Each pair of letters counts once.
+abbrev pub edge_count : List ℕ → ℕ
+edge_count cells = sum_below 52 (λ y. sum_below y (λ x. cell cells x y))
+
+-- Edges join two different letters of the rank, either way round, and there are at most 4,096.
+pub record IsNet (net : Net) : Type 0 where
+  pub rank : net.rank ≤ 26
+  pub size : length net.cells ≡ 2704
+  pub symmetric : (x y : ℕ) → x < 52 → y < 52 → cell net.cells x y ≡ cell net.cells y x
+  pub diagonal : (x : ℕ) → x < 52 → cell net.cells x x ≡ 0
+  pub of_rank : (x y : ℕ) → x < 52 → y < 52 → 2 * net.rank ≤ x → cell net.cells x y ≡ 0
+  pub few : edge_count net.cells ≤ 4096

@@ -1,0 +1,102 @@
+//! Networks: how many edges join each two letters.
+ghost use Rattle.std.specs.Prelude.{◌≡◌, ◌≢◌, ℕ, ◌+◌, ◌*◌, ◌<◌, ◌≤◌, cond, length, replicate};
+ghost use Rattle.wh_words.specs.Edges.{joins};
+ghost use Rattle.wh_flow.specs.Nets.{cell, edge_count, IsNet};
+ghost use Rattle.wh_flow.specs.Searches.{IsOfLetters};
+
+use std::marker::Model;
+use wh_words::{Letter, Rank};
+
+/// A network on the letters of a rank: the number of edges between each two letters. Edges have no direction, join two
+/// different letters, and there are at most 4,096 of them. Contracts see the rank and the table of these numbers, row by
+/// row.
+#[derive(Drop, Clone)]
+pub struct Net {
+    rank: Rank,
+    cells: [u32; 2704],
+}
+
+impl Model for Net {
+    ghost use Rattle.wh_flow.specs.Nets.{IsNet};
+    ghost use Rattle.wh_flow.specs.Nets as spec;
+
+    ghost Value = { spec.Net };
+
+    ghost view = { λ n. record { rank = n.rank; cells = n.cells } };
+
+    ghost invariant = { λ n. IsNet (record { rank = n.rank; cells = n.cells }) };
+}
+
+impl Net {
+    /// The network of a rank without edges.
+    pub fn empty(rank: Rank) -> Net
+        ensures same { result ≡ record { rank = rank; cells = replicate 2704 0 } }
+        ensures none { edge_count result.cells ≡ 0 }
+    {
+        rank.get();
+        Net {
+            rank,
+            cells: [0; 2704],
+        }
+    }
+
+    /// The rank.
+    pub fn rank(&self) -> Rank
+        ensures same { result ≡ self.now.rank }
+        ensures net { IsNet self.now }
+    {
+        self.rank
+    }
+
+    /// How many edges join two letters.
+    pub fn cap_of(&self, x: Letter, y: Letter) -> u32
+        ensures { result ≡ cell self.now.cells x y }
+    {
+        self.cells[52 * x.index() as usize + y.index() as usize]
+    }
+
+    /// Adds an edge between two different letters of the rank, to a network with fewer than 4,096 edges.
+    pub fn add_edge(&mut self, x: Letter, y: Letter)
+        requires apart { x ≢ y }
+        requires x_of_rank { x < 2 * self.old.rank }
+        requires y_of_rank { y < 2 * self.old.rank }
+        requires few { edge_count self.old.cells < 4096 }
+        ensures rank { self.new.rank ≡ self.old.rank }
+        ensures edge { (u v : ℕ) → u < 52 → v < 52 → cell self.new.cells u v ≡ cell self.old.cells u v + cond (joins u v (x, y)) 1 0 }
+        ensures count { edge_count self.new.cells ≡ edge_count self.old.cells + 1 }
+    {
+        write_edge(&mut self.cells, x.index() as usize, y.index() as usize);
+    }
+
+    /// The capacities, row by row.
+    pub(crate) fn cells(&self) -> &[u32]
+        ensures cells { result.now ≡ self.now.cells }
+        ensures size { length result.now ≡ 2704 }
+        ensures of_letters { IsOfLetters (2 * self.now.rank) result.now }
+    {
+        &self.cells
+    }
+
+    /// How many letters the rank has.
+    pub(crate) fn letters(&self) -> usize
+        ensures value { result ≡ 2 * self.now.rank }
+        ensures few { result ≤ 52 }
+    {
+        2 * self.rank.get() as usize
+    }
+}
+
+/// Adds one at `x` and `y`, and one at `y` and `x`.
+fn write_edge(cells: &mut [u32], x: usize, y: usize)
+    requires x_within { x < 52 }
+    requires y_within { y < 52 }
+    requires apart { x ≢ y }
+    requires size { length cells.old ≡ 2704 }
+    requires low { cell cells.old x y ≤ 4096 }
+    requires low_back { cell cells.old y x ≤ 4096 }
+    ensures size { length cells.new ≡ 2704 }
+    ensures edge { (u v : ℕ) → u < 52 → v < 52 → cell cells.new u v ≡ cell cells.old u v + cond (joins u v (x, y)) 1 0 }
+{
+    cells[52 * x + y] += 1;
+    cells[52 * y + x] += 1;
+}

@@ -1,0 +1,9 @@
+pub mod EdgeCounts
+pub mod Degrees
+pub mod Lengths
+pub mod SetNumbers
+pub mod Agreement
+pub mod EdgeTables
+pub mod NetworkCuts
+pub mod CellSums
+pub mod WordLoops
