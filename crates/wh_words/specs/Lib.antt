@@ -9,8 +9,10 @@ pub mod Images
 pub mod Action
 pub mod Edges
 pub mod Flows
+pub mod TupleFlows
 pub mod Traces
 pub mod CapacityTraces
+pub mod Levels
 pub mod Laws
 -- How this crate keeps and writes words.
 pub mod Storage

@@ -1,0 +1,40 @@
+-- Levels: the tuples that moves reach without a change of length, after Lyndon and Schupp, I.4.
+use Rattle.std.specs.Prelude.{◌≡◌, ◌≤◌, true, false, List, [], ◌∷◌, length, Contains, ◌↔◌}
+use Rattle.std.specs.Ordering.{is_lt, is_gt}
+use Rattle.std.specs.Cmp.Lexicographic.{slice_cmp}
+use Rattle.wh_words.specs.Tuples.{TupleData, tuple_length, tuple_cmp}
+use Rattle.wh_words.specs.Moves.{Move, IsMove, IsIdentityCut, move_cmp}
+use Rattle.wh_words.specs.Action.{act}
+
+-- A level move of a tuple: a move of its rank that keeps its length and is no identity cut.
+pub record IsLevelMove (t : TupleData) (m : Move) : Type 0 where
+  pub valid : IsMove m
+  pub rank : m.rank ≡ t.rank
+  pub kept : tuple_length (act t m) ≡ tuple_length t
+  pub moves : ¬ (IsIdentityCut m.kind)
+
+-- A list of moves leads from a tuple to another, each a level move of the tuple that it acts on.
+pub data Reaches : TupleData → List Move → TupleData → Type 0 where
+  here : {t : TupleData} → Reaches t [] t
+  step : {t : TupleData} {m : Move} {ms : List Move} {u : TupleData} → IsLevelMove t m → Reaches (act t m) ms u → Reaches t (m ∷ ms) u
+
+-- The level of a root: all tuples that some list of level moves leads to.
+abbrev pub InLevel : TupleData → TupleData → Type 0
+InLevel root t = (ms : List Move) × Reaches root ms t
+
+-- Each tuple of the list comes before the next in the order of tuples.
+abbrev pub AreSorted : List TupleData → Type 0
+AreSorted [] = Unit {0}
+AreSorted (t ∷ []) = Unit {0}
+AreSorted (t ∷ u ∷ ts) = (is_lt (tuple_cmp t u) ≡ true) × AreSorted (u ∷ ts)
+
+-- The list is the level of the root in the order of tuples, each of its tuples once.
+pub record IsLevel (root : TupleData) (ts : List TupleData) : Type 0 where
+  pub sorted : AreSorted ts
+  pub exact : (t : TupleData) → Contains ts t ↔ InLevel root t
+
+-- The first walk from a root to a tuple: of the shortest lists of level moves that lead there the first, compared move by move.
+pub record IsFirstWalk (root t : TupleData) (ms : List Move) : Type 0 where
+  pub leads : Reaches root ms t
+  pub shortest : (ns : List Move) → Reaches root ns t → length ms ≤ length ns
+  pub first : (ns : List Move) → Reaches root ns t → length ns ≡ length ms → is_gt (slice_cmp move_cmp ms ns) ≡ false
