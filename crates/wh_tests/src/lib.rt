@@ -6,10 +6,6 @@ mod command_line;
 #[cfg(test)]
 mod moves;
 #[cfg(test)]
-mod problem_text;
-#[cfg(test)]
-mod reduce;
-#[cfg(test)]
 mod streams;
 #[cfg(test)]
 mod support;

@@ -1,7 +1,9 @@
 //! Moves, their images and their action.
 use crate::support::{letter, letters, tuple};
+use std::alloc::Global;
+use std::process::Abort;
 use std::test::Fail;
-use wh_moves::{Move, act, act_into, acted_length, images};
+use wh_moves::{Images, Move, act, act_into, acted_length, images};
 use wh_words::{LetterSet, Rank, Tuple};
 
 #[test]
@@ -28,6 +30,20 @@ fn moves_are_ordered_by_kind(rt: HostRuntime) -> Result<(), Fail> {
     Ok(())
 }
 
+/// Asserts the image of a generator.
+fn image_is(
+    rt: &impl Abort,
+    alloc: Global,
+    images: &Images,
+    place: usize,
+    text: &str,
+) -> Result<(), Fail> {
+    let image = images.words().get(place).ok_or("place")?;
+    let letters = letters(alloc, text)?;
+    assert_eq!(rt; image.letters(), letters.as_slice());
+    Ok(())
+}
+
 #[test]
 fn images_are_those_of_the_generators(rt: HostRuntime) -> Result<(), Fail> {
     let alloc = rt.alloc();
@@ -36,9 +52,9 @@ fn images_are_those_of_the_generators(rt: HostRuntime) -> Result<(), Fail> {
     let cut = Move::cut(rank, letter(b'a')?, LetterSet::of_bits(1 + 8 + 16)).ok_or("cut")?;
     let made = images(alloc, &cut)?;
     assert_eq!(rt; made.words().len(), 3);
-    for (image, text) in made.words().iter().zip(["a", "Ab", "ca"]) {
-        assert_eq!(rt; image.letters(), letters(alloc, text)?.as_slice());
-    }
+    image_is(&rt, alloc, &made, 0, "a")?;
+    image_is(&rt, alloc, &made, 1, "Ab")?;
+    image_is(&rt, alloc, &made, 2, "ca")?;
     let swap = Move::swap(rank, 1).ok_or("swap")?;
     assert!(rt; made != images(alloc, &swap)?);
     Ok(())

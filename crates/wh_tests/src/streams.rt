@@ -10,9 +10,16 @@ const PROBLEM: &[u8] = b"rank 2\ntuple ab\n";
 #[test]
 fn a_read_fault_writes_nothing(rt: HostRuntime) -> Result<(), Fail> {
     let alloc = rt.alloc();
-    let mut source = MemSource::new(Vec::from_slice(alloc, PROBLEM)?, 10, Vec::from_slice(alloc, &[2])?);
+    let mut source = MemSource::new(
+        Vec::from_slice(alloc, PROBLEM)?,
+        10,
+        Vec::from_slice(alloc, &[2])?,
+    );
     let mut sink = MemSink::new(alloc, 4096, Vec::new(alloc));
-    assert_eq!(rt; run(alloc, &["reduce"], &mut source, &mut sink), Status::ReadFault);
+    assert_eq!(rt;
+        run(alloc, &["reduce"], &mut source, &mut sink),
+        Status::ReadFault
+    );
     assert_eq!(rt; sink.held(), b"".as_slice());
     assert_eq!(rt; source.faults(), 1);
     Ok(())
@@ -23,7 +30,10 @@ fn a_write_fault_leaves_a_front_of_the_text(rt: HostRuntime) -> Result<(), Fail>
     let alloc = rt.alloc();
     let mut source = source(alloc, PROBLEM)?;
     let mut sink = MemSink::new(alloc, 16, Vec::from_slice(alloc, &[2])?);
-    assert_eq!(rt; run(alloc, &["reduce"], &mut source, &mut sink), Status::WriteFault);
+    assert_eq!(rt;
+        run(alloc, &["reduce"], &mut source, &mut sink),
+        Status::WriteFault
+    );
     assert_eq!(rt; sink.held(), b"whitehead 1 redu".as_slice());
     assert_eq!(rt; sink.faults(), 1);
     Ok(())
@@ -33,9 +43,16 @@ fn a_write_fault_leaves_a_front_of_the_text(rt: HostRuntime) -> Result<(), Fail>
 fn refused_words_read_nothing(rt: HostRuntime) -> Result<(), Fail> {
     let alloc = rt.alloc();
     // A read would fail.
-    let mut source = MemSource::new(Vec::from_slice(alloc, PROBLEM)?, 10, Vec::from_slice(alloc, &[1])?);
+    let mut source = MemSource::new(
+        Vec::from_slice(alloc, PROBLEM)?,
+        10,
+        Vec::from_slice(alloc, &[1])?,
+    );
     let mut sink = MemSink::new(alloc, 4096, Vec::new(alloc));
-    assert_eq!(rt; run(alloc, &["solve"], &mut source, &mut sink), Status::Refused);
+    assert_eq!(rt;
+        run(alloc, &["solve"], &mut source, &mut sink),
+        Status::Refused
+    );
     assert_eq!(rt; sink.held(), b"refused words\n".as_slice());
     assert_eq!(rt; source.faults(), 0);
     Ok(())

@@ -1,36 +1,13 @@
 //! What the tests share: a run over memory, and words from their spelling.
 use std::alloc::Global;
-use std::process::Abort;
 use std::test::Fail;
-use wh_io::{MemSink, MemSource};
-use wh_text::{Command, Problem, Status, read_problem};
+use wh_io::MemSource;
+use wh_text::{Command, Problem, read_problem};
 use wh_words::{Letter, Tuple, Word};
-use whitehead::run;
 
 /// A source that gives all it has and never fails.
 pub(crate) fn source(alloc: Global, input: &[u8]) -> Result<MemSource, Fail> {
-    Ok(MemSource::new(
-        Vec::from_slice(alloc, input)?,
-        4096,
-        Vec::new(alloc),
-    ))
-}
-
-/// Runs the program on words and bytes, and asserts the status and the text.
-pub(crate) fn expect(
-    rt: &impl Abort,
-    alloc: Global,
-    words: &[&str],
-    input: &[u8],
-    status: Status,
-    text: &str,
-) -> Result<(), Fail> {
-    let mut source = source(alloc, input)?;
-    let mut sink = MemSink::new(alloc, 4096, Vec::new(alloc));
-    let ended = run(alloc, words, &mut source, &mut sink);
-    assert_eq!(rt; sink.held(), text.as_bytes());
-    assert_eq!(rt; ended, status);
-    Ok(())
+    Ok(MemSource::new(Vec::from_slice(alloc, input)?, 4096, Vec::new(alloc)))
 }
 
 /// The letter that a byte spells.

@@ -1,47 +1,68 @@
 //! Words, cyclic words and tuples.
 use crate::support::{letters, word};
+use std::alloc::Global;
+use std::process::Abort;
 use std::test::Fail;
 use wh_words::{CyclicWord, LetterSet, List, Rank, Tuple};
+
+/// Asserts the free reduction of a text.
+fn reduces_to(rt: &impl Abort, alloc: Global, text: &str, reduced: &str) -> Result<(), Fail> {
+    let word = word(alloc, text)?;
+    let reduced = letters(alloc, reduced)?;
+    assert_eq!(rt; word.letters(), reduced.as_slice());
+    Ok(())
+}
 
 #[test]
 fn words_are_reduced(rt: HostRuntime) -> Result<(), Fail> {
     let alloc = rt.alloc();
-    for (text, reduced) in [
-        ("", ""),
-        ("aA", ""),
-        ("abBAc", "c"),
-        ("abBAaabAB", "aabAB"),
-        ("aaaaaaaaaaaaaaaaaaaaaaaa", "aaaaaaaaaaaaaaaaaaaaaaaa"),
-    ] {
-        assert_eq!(rt; word(alloc, text)?.letters(), letters(alloc, reduced)?.as_slice());
-    }
+    reduces_to(&rt, alloc, "", "")?;
+    reduces_to(&rt, alloc, "aA", "")?;
+    reduces_to(&rt, alloc, "abBAc", "c")?;
+    reduces_to(&rt, alloc, "abBAaabAB", "aabAB")?;
+    reduces_to(
+        &rt,
+        alloc,
+        "aaaaaaaaaaaaaaaaaaaaaaaa",
+        "aaaaaaaaaaaaaaaaaaaaaaaa",
+    )
+}
+
+/// Asserts the cyclic word of a text.
+fn is_cyclically(rt: &impl Abort, alloc: Global, text: &str, cyclic: &str) -> Result<(), Fail> {
+    let made = CyclicWord::of(alloc, &word(alloc, text)?)?;
+    let cyclic = letters(alloc, cyclic)?;
+    assert_eq!(rt; made.letters(), cyclic.as_slice());
     Ok(())
 }
 
 #[test]
 fn cyclic_words_are_the_first_rotations(rt: HostRuntime) -> Result<(), Fail> {
     let alloc = rt.alloc();
-    for (text, cyclic) in [
-        ("", ""),
-        ("bAB", "A"),
-        ("BabAb", "b"),
-        ("BAba", "aBAb"),
-        ("baba", "abab"),
-        ("aaCBcAcACb", "aaCBcAcACb"),
-    ] {
-        let made = CyclicWord::of(alloc, &word(alloc, text)?)?;
-        assert_eq!(rt; made.letters(), letters(alloc, cyclic)?.as_slice());
-    }
+    is_cyclically(&rt, alloc, "", "")?;
+    is_cyclically(&rt, alloc, "bAB", "A")?;
+    is_cyclically(&rt, alloc, "BabAb", "b")?;
+    is_cyclically(&rt, alloc, "BAba", "aBAb")?;
+    is_cyclically(&rt, alloc, "baba", "abab")?;
+    is_cyclically(&rt, alloc, "aaCBcAcACb", "aaCBcAcACb")
+}
+
+/// Asserts the order of two words.
+fn comes_before(rt: &impl Abort, alloc: Global, less: &str, more: &str) -> Result<(), Fail> {
+    let less = word(alloc, less)?;
+    let more = word(alloc, more)?;
+    assert!(rt; less < more);
     Ok(())
 }
 
 #[test]
 fn words_are_ordered_letter_by_letter(rt: HostRuntime) -> Result<(), Fail> {
     let alloc = rt.alloc();
-    for (less, more) in [("a", "A"), ("A", "b"), ("a", "ab"), ("", "a"), ("aB", "bA")] {
-        assert!(rt; word(alloc, less)? < word(alloc, more)?);
-    }
-    Ok(())
+    comes_before(&rt, alloc, "a", "A")?;
+    comes_before(&rt, alloc, "A", "b")?;
+    comes_before(&rt, alloc, "a", "ab")?;
+    comes_before(&rt, alloc, "", "a")?;
+    comes_before(&rt, alloc, "aB", "bA")
 }
 
 #[test]
