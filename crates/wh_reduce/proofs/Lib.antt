@@ -1,2 +1,3 @@
-pub mod Searched
 pub mod Traced
+pub mod Stepped
+pub mod Flowing

@@ -1,28 +1,34 @@
 -- The trace of a tuple, step by step.
-use Rattle.std.proofs.Common.{◌≡◌, ℕ, ◌+◌, ◌<◌, ◌≤◌, List, [], ◌∷◌, ◌++◌, length, map, refl, sym, ap, ◌∙◌, subst, arith, append_assoc, append-nil}
-use Rattle.wh_words.specs.Tuples.{TupleData, Tuple, tuple_length, in_rooms_of, own_room}
+use Rattle.std.proofs.Common.{◌≡◌, ◌*◌, ◌<◌, ◌≤◌, List, [], ◌∷◌, ◌++◌, length, sym, ap, ◌∙◌, subst, arith, append_assoc, append-nil}
+use Rattle.wh_words.specs.Tuples.{TupleData, Tuple, IsTuple, tuple_length, in_rooms_of, own_room}
 use Rattle.wh_words.specs.Moves.{Move}
 use Rattle.wh_words.specs.Action.{act, substitute}
 use Rattle.wh_words.specs.CyclicWords.{cyclic_word}
 use Rattle.std.proofs.lemmas.List.{length-map}
-use Rattle.wh_words.specs.Traces.{IsFlat, IsStep, IsTrace}
-use Rattle.wh_words.specs.Traces.IsTrace.{done, step}
+use Rattle.wh_words.specs.Traces.{cut_length, IsFlat}
+use Rattle.wh_words.specs.CapacityTraces.{IsTight, IsCapacityStep, IsCapacityTrace}
+use Rattle.wh_words.specs.CapacityTraces.IsCapacityTrace.{done, step}
+use Rattle.wh_graph.proofs.Lengths.{cuts_shorten}
+use Rattle.wh_graph.proofs.Agreement.{flat_is_tight}
 
 -- The moves are the front of the trace of t, up to now.
 pub record Traced (t : TupleData) (moves : List Move) (now : TupleData) : Type 0 where
-  pub front : (ms : List Move) (end : TupleData) → IsTrace now ms end → IsTrace t (moves ++ ms) end
+  pub front : (ms : List Move) (end : TupleData) → IsCapacityTrace now ms end → IsCapacityTrace t (moves ++ ms) end
 
 pub traced_start : (t : TupleData) → Traced t [] t
 traced_start t = record { front = λ ms end r. r }
 
-pub traced_step : (t now next : TupleData) (moves : List Move) (m : Move) → Traced t moves now → IsStep now m → next ≡ act now m → Traced t (moves ++ m ∷ []) next
+pub traced_step : (t now next : TupleData) (moves : List Move) (m : Move) → Traced t moves now → IsCapacityStep now m → next ≡ act now m → Traced t (moves ++ m ∷ []) next
 traced_step t now next moves m d s e = record {
-  front = λ ms end r. subst (λ (l : List Move). IsTrace t l end) (sym (append_assoc moves (m ∷ []) ms))
-    (d.front (m ∷ ms) end (step s (subst (λ (u : TupleData). IsTrace u ms end) e r)));
+  front = λ ms end r. subst (λ (l : List Move). IsCapacityTrace t l end) (sym (append_assoc moves (m ∷ []) ms))
+      (d.front (m ∷ ms) end (step s (subst (λ (u : TupleData). IsCapacityTrace u ms end) e r)));
 }
 
-pub traced_end : (t now : TupleData) (moves : List Move) → Traced t moves now → IsFlat now → IsTrace t moves now
-traced_end t now moves d f = subst (λ (l : List Move). IsTrace t l now) (append-nil moves) (d.front [] now (done f))
+pub traced_end : (t now : TupleData) (moves : List Move) → Traced t moves now → IsTight now → IsCapacityTrace t moves now
+traced_end t now moves d f = subst (λ (l : List Move). IsCapacityTrace t l now) (append-nil moves) (d.front [] now (done f))
+
+pub tight_is_flat : (t : TupleData) → IsTuple t → IsTight t → IsFlat t
+tight_is_flat t is f = (flat_is_tight t is).1 f
 
 -- ---- the rooms of the two tuples
 -- The tuple now is of the rank of t, has as many words and no more letters, and both it and the spare one have the rooms of t.
@@ -46,18 +52,23 @@ roomy_start t now spare e f = record {
   spare_word_room = ap (λ (u : Tuple). u.word_room) f;
 }
 
-pub step_rank : (t : TupleData) (m : Move) → IsStep t m → t.rank ≡ m.rank
+pub step_rank : (t : TupleData) (m : Move) → IsCapacityStep t m → t.rank ≡ m.rank
 step_rank t m s = sym (ap (λ (k : Move). k.rank) s.is)
 
-pub step_shortens : (t : TupleData) (m : Move) → IsStep t m → tuple_length (act t m) < tuple_length t
-step_shortens t m s = subst (λ (k : Move). tuple_length (act t k) < tuple_length t) (sym s.is) s.cut.shortens
+pub step_shortens : (t : TupleData) (m : Move) → IsTuple t → IsCapacityStep t m → tuple_length (act t m) < tuple_length t
+step_shortens t m is s =
+    let shorter : cut_length t (2 * s.generator) s.set < tuple_length t = (cuts_shorten t (2 * s.generator) s.set is s.cut.valid).1 s.below in
+    subst (λ (k : Move). tuple_length (act t k) < tuple_length t) (sym s.is) shorter
+
+pub step_smaller : (now spare next : Tuple) (m : Move) → IsTuple now.plain → IsCapacityStep now.plain m → next ≡ in_rooms_of spare (act now.plain m) → tuple_length next.plain < tuple_length now.plain
+step_smaller now spare next m is s e = omega (arith, ap (λ (u : Tuple). tuple_length u.plain) e, step_shortens now.plain m is s)
 
 -- The tuple after the step stands in the spare one, and both change places.
-pub roomy_step : (t : TupleData) (now spare next : Tuple) (m : Move) → AreRoomy t now spare → IsStep now.plain m → next ≡ in_rooms_of spare (act now.plain m) → AreRoomy t next now
-roomy_step t now spare next m r s e = record {
+pub roomy_step : (t : TupleData) (now spare next : Tuple) (m : Move) → AreRoomy t now spare → IsTuple now.plain → IsCapacityStep now.plain m → next ≡ in_rooms_of spare (act now.plain m) → AreRoomy t next now
+roomy_step t now spare next m r is s e = record {
   rank = ap (λ (u : Tuple). u.plain.rank) e ∙ r.rank;
   count = ap (λ (u : Tuple). length u.plain.words) e ∙ length-map now.plain.words (λ w. cyclic_word (substitute m.kind w)) ∙ r.count;
-  short = omega (arith, ap (λ (u : Tuple). tuple_length u.plain) e, step_shortens now.plain m s, r.short);
+  short = omega (arith, ap (λ (u : Tuple). tuple_length u.plain) e, step_shortens now.plain m is s, r.short);
   room = ap (λ (u : Tuple). u.room) e ∙ r.spare_room;
   word_room = ap (λ (u : Tuple). u.word_room) e ∙ r.spare_word_room;
   spare_room = r.room;

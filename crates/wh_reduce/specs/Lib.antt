@@ -1,2 +1,4 @@
+pub mod TightNetworks
+pub mod FlowLists
 -- The definitions of the theory, for the crates above.
-pub use Rattle.wh_words.specs.Traces
+pub use Rattle.wh_words.specs.CapacityTraces

@@ -1,8 +1,10 @@
-//! Shortening a tuple by cuts, until no cut shortens it.
+//! Shortening a tuple by cuts of least capacity until it is tight, and the flows that show that it is.
 #![tactic(auto)]
 
+mod generator_flows;
 mod step;
 mod trace;
 
+pub use generator_flows::flows;
 pub use step::shorten;
 pub use trace::{Trace, reduce};

@@ -1,50 +1,46 @@
 //! The cut that shortens a tuple next.
-ghost use Rattle.std.specs.Prelude.{◌≡◌, ◌<◌, ◌≤◌, MatchOption};
-ghost use Rattle.wh_words.specs.Moves.{IsCut};
-ghost use Rattle.wh_words.specs.Traces.{cut_length, IsFlat, IsFlatAt, IsShortestCut, IsStep};
+ghost use Rattle.std.specs.Prelude.{◌≡◌, ◌*◌, ◌<◌, MatchOption};
+ghost use Rattle.wh_words.specs.Tuples.{IsRoomed};
+ghost use Rattle.wh_words.specs.CapacityTraces.{IsTight, IsCapacityStep};
+ghost use Rattle.wh_reduce.specs.TightNetworks.{IsTightNetworkAt, IsLeastCutBelow};
 
-use wh_moves::{Move, acted_length};
+use wh_flow::{Net, least_cut, max_flow_uncounted};
+use wh_graph::{cap, deg, graph};
+use wh_moves::Move;
 use wh_words::{Letter, LetterSet, Tuple};
 
-/// The length of a tuple after the cut with this multiplier and this set, where that is a cut and below `least`.
-fn shorter_length(tuple: &Tuple, mult: Letter, set: LetterSet, least: u32) -> Option<u32>
-    ensures { MatchOption result (IsCut tuple.now.plain.rank mult set → least ≤ cut_length tuple.now.plain mult set)
-        (λ n. IsCut tuple.now.plain.rank mult set × (n ≡ cut_length tuple.now.plain mult set) × (n < least)) }
+/// The least cut between a letter and its inverse, where its capacity is below the degree of the letter.
+fn least_cut_below(net: &Net, letter: Letter) -> Option<LetterSet>
+    requires { letter < 2 * net.now.rank }
+    ensures { MatchOption result (IsTightNetworkAt net.now letter) (IsLeastCutBelow net.now letter) }
 {
-    let cut = Move::cut(tuple.rank(), mult, set)?;
-    let length = acted_length(tuple, &cut);
-    if length < least { Some(length) } else { None }
-}
-
-/// The set of the cut with this multiplier that shortens a tuple most, and the first of those that do.
-#[tactic(auto, using(crate::proofs::Searched::search_starts, crate::proofs::Searched::search_skips, crate::proofs::Searched::search_takes))]
-fn shortest_set(tuple: &Tuple, mult: Letter) -> Option<LetterSet>
-    ensures { MatchOption result (IsFlatAt tuple.now.plain mult) (λ set. IsShortestCut tuple.now.plain mult set) }
-{
-    let mut least = tuple.length();
-    let mut best = None;
-    for bits in 0..1u64 << (2 * tuple.rank().get()) {
-        let set = LetterSet::of_bits(bits);
-        if let Some(length) = shorter_length(tuple, mult, set, least) {
-            least = length;
-            best = Some(set);
-        }
+    let degree = deg(net, letter);
+    if degree == 0 {
+        return None;
     }
-    best
+    let inverse = letter.inverse();
+    let flow = max_flow_uncounted(net, letter, inverse);
+    let set = least_cut(net, &flow, letter, inverse);
+    if cap(net, set) < degree {
+        Some(set)
+    } else {
+        None
+    }
 }
 
-/// The step of a tuple: for the first letter, in their order, that is the multiplier of a shortening cut, the cut that
-/// shortens the tuple most, and the first of those that do (Lyndon and Schupp, I.4). None exactly where the tuple is
-/// flat. It takes no memory.
-#[tactic(auto, using(crate::proofs::Searched::flat_past))]
+/// The step of a tuple: for the first generator that has a cut of a capacity below its degree, the least cut, found by a
+/// maximum flow from the generator to its inverse in the Whitehead graph (Roig, Ventura and Weil 2007). None exactly where
+/// the tuple is tight. It takes no memory.
 pub fn shorten(tuple: &Tuple) -> Option<Move>
-    ensures { MatchOption result (IsFlat tuple.now.plain) (IsStep tuple.now.plain) }
+    ensures step { MatchOption result (IsTight tuple.now.plain) (IsCapacityStep tuple.now.plain) }
+    ensures roomed { IsRoomed tuple.now }
 {
+    let net = graph(tuple);
     let rank = tuple.rank();
-    for index in 0..2 * rank.get() {
-        let mult = Letter::of_index(index);
-        if let Some(set) = shortest_set(tuple, mult) {
-            return Move::cut(rank, mult, set);
+    for generator in 0..rank.get() {
+        let letter = Letter::of_index(2 * generator);
+        if let Some(set) = least_cut_below(&net, letter) {
+            return Move::cut(rank, letter, set);
         }
     }
     None

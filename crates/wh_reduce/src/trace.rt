@@ -1,6 +1,7 @@
 //! The trace of a tuple.
 ghost use Rattle.std.specs.Prelude.{IfOk};
-ghost use Rattle.wh_words.specs.Traces.{IsFlat, IsTrace};
+ghost use Rattle.wh_words.specs.Traces.{IsFlat};
+ghost use Rattle.wh_words.specs.CapacityTraces.{IsTight, IsCapacityTrace};
 
 use crate::step::shorten;
 use std::alloc::Global;
@@ -15,11 +16,12 @@ pub struct Trace {
     pub end: Tuple,
 }
 
-/// The trace of a tuple: its step, the step of the tuple after it, and so on, until the tuple is flat (Lyndon and
-/// Schupp, I.4). It takes memory for two tuples and the list of moves.
-#[tactic(auto, using(crate::proofs::Traced::traced_start, crate::proofs::Traced::traced_step, crate::proofs::Traced::traced_end))]
+/// The trace of a tuple: its step, the step of the tuple after it, and so on, until the tuple is tight, so that no cut
+/// shortens it (Lyndon and Schupp, I.4; Roig, Ventura and Weil 2007). It takes memory for two tuples and the list of moves.
+#[tactic(auto, using(crate::proofs::Traced::traced_start, crate::proofs::Traced::traced_step, crate::proofs::Traced::traced_end, crate::proofs::Traced::tight_is_flat))]
 pub fn reduce(alloc: Global, tuple: &Tuple) -> Result<Trace, OutOfMemory>
-    ensures trace { IfOk result (λ r. IsTrace tuple.now.plain r.moves r.end.plain) }
+    ensures trace { IfOk result (λ r. IsCapacityTrace tuple.now.plain r.moves r.end.plain) }
+    ensures tight { IfOk result (λ r. IsTight r.end.plain) }
     ensures flat { IfOk result (λ r. IsFlat r.end.plain) }
 {
     let mut end = tuple.copy(alloc)?;

@@ -1,4 +1,3 @@
-use Rattle.std.proofs.Common.{◌≡◌}
 use Rattle.wh_words.specs.Tuples.{tuple_length}
 use Rattle.wh_reduce.proofs.Traced.{Traced, AreRoomy}
 use Rattle.wh_reduce.proofs.trace.reduce.Given as goal
