@@ -5,6 +5,7 @@ pub mod Digits
 pub mod Items
 pub mod Sheets
 pub mod SetTexts
+pub mod RepeatedTexts
 pub mod NumberLaws
 pub mod WordLaws
 pub mod LineLaws

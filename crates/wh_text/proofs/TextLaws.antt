@@ -13,11 +13,11 @@ use Rattle.wh_text.specs.Lines.{Field, lines, is_allowed, bad_at, is_comment, jo
 use Rattle.wh_text.specs.Readings.{◌>>=◌}
 use Rattle.wh_text.specs.Spellings.{are, word_text}
 use Rattle.wh_text.specs.TupleLines.{tuple_at}
-use Rattle.wh_text.specs.Problems.{Sheet, blank_sheet, reduce, most_bytes, rank_at, first_line, later_line, kept_line, line_of_fields, good_line, line_at, lines_at, one_tuple, whole, problem}
+use Rattle.wh_text.specs.Problems.{Sheet, blank_sheet, reduce, most_bytes, greatest_rank, rank_at, first_line, later_line, kept_line, line_of_fields, good_line, line_at, lines_at, one_tuple, whole, problem}
 use Rattle.wh_text.specs.Laws.{is_skipped, kept_lines, IsClean, IsRankLine, IsTupleLine, IsReduceText, ReadsReduceTexts}
 use Rattle.wh_text.proofs.Items.{bind_ok, ok_is}
 use Rattle.wh_text.proofs.Equations.{unless_ok, if_ok, not_more, is_not_more, are_is, are_back, split_fields}
-use Rattle.wh_text.proofs.TupleLaws.{AreSome, fields_some, Spell, tuple_is, tuple_back, rank_is, rank_back}
+use Rattle.wh_text.proofs.TupleLaws.{AreSome, fields_some, Spell, tuple_is, tuple_back, rank_within, rank_is, rank_back}
 
 -- ---- a line
 pub bad_clean : (c : ℕ) (line : List ℕ) → bad_at c line ≡ None → IsClean line
@@ -129,11 +129,11 @@ later_is n l ts line keyword fs told h f e =
       sym (ok_is (told_sheet n (ts ++ q.0 ∷ [])) told q.2),
     )
 
-later_back : (n l : ℕ) (ts : List TupleData) (line : List ℕ) (u : TupleData) → n ≤ 26 → IsClean line → is_skipped line ≡ false → IsTupleLine n line u →
-    line_at commands.Reduce l (told_sheet n ts) line ≡ Ok (told_sheet n (ts ++ u ∷ []))
-later_back n l ts line u h clean e t =
+later_back : (command : Command) (n l : ℕ) (ts : List TupleData) (line : List ℕ) (u : TupleData) → n ≤ 26 → IsClean line → is_skipped line ≡ false → IsTupleLine n line u →
+    line_at command l (told_sheet n ts) line ≡ Ok (told_sheet n (ts ++ u ∷ []))
+later_back command n l ts line u h clean e t =
     let p = split_fields (fields 1 line) (codes "tuple") (map word_text t.written) t.spelled in
-    line_kept commands.Reduce l (told_sheet n ts) line p.0 p.1 clean e p.2
+    line_kept command l (told_sheet n ts) line p.0 p.1 clean e p.2
     ∙ cond-true (are p.0.bytes (codes "tuple")) (tuple_at n l p.1 >>= λ t. Ok (told_sheet n (ts ++ t ∷ []))) (Err (errors.BadLine l)) (are_back p.0.bytes (codes "tuple") p.3)
     ∙ ap (λ r. r >>= λ t. Ok (told_sheet n (ts ++ t ∷ []))) (tuple_back n l p.1 u h (rest_some line p.0 p.1 p.2)
     (record { written = t.written; spelled = p.4; of_rank = t.of_rank; few = t.few; short = t.short; cyclic = t.cyclic }))
@@ -145,15 +145,15 @@ record TuplesTold (n : ℕ) (ts : List TupleData) (ls : List (List ℕ)) (s : Sh
   told : TupleLines n (kept_lines ls) tuples
   sheet : s ≡ told_sheet n (ts ++ tuples)
 
-tuples_are : (n l : ℕ) (ts : List TupleData) (ls : List (List ℕ)) (p : Sheet × ℕ) → n ≤ 26 → lines_at commands.Reduce l (told_sheet n ts) ls ≡ Ok p → TuplesTold n ts ls p.0
+tuples_are : (command : Command) (n l : ℕ) (ts : List TupleData) (ls : List (List ℕ)) (p : Sheet × ℕ) → n ≤ 26 → lines_at command l (told_sheet n ts) ls ≡ Ok p → TuplesTold n ts ls p.0
 unfolding lines_at
-tuples_are n l ts [] p h e =
+tuples_are command n l ts [] p h e =
     record { clean = All-nil IsClean; tuples = []; told = none; sheet = ap (λ q. q.0) (sym (ok_is (told_sheet n ts, l) p e)) ∙ ap (told_sheet n) (sym (append-nil ts)) }
-tuples_are n l ts (line ∷ ls) p h e =
-    let q = bind_ok (line_at commands.Reduce l (told_sheet n ts) line) (λ t. lines_at commands.Reduce (l + 1) t ls) p e in
-    let told = line_is commands.Reduce l (told_sheet n ts) line q.0 q.1 in
+tuples_are command n l ts (line ∷ ls) p h e =
+    let q = bind_ok (line_at command l (told_sheet n ts) line) (λ t. lines_at command (l + 1) t ls) p e in
+    let told = line_is command l (told_sheet n ts) line q.0 q.1 in
     elim told.1 [
-      | skipped k same ↦ (let r = tuples_are n (l + 1) ts ls p h (ap (λ t. lines_at commands.Reduce (l + 1) t ls) (sym same) ∙ q.2) in
+      | skipped k same ↦ (let r = tuples_are command n (l + 1) ts ls p h (ap (λ t. lines_at command (l + 1) t ls) (sym same) ∙ q.2) in
           record {
             clean = All-cons IsClean line ls told.0 r.clean;
             tuples = r.tuples;
@@ -161,7 +161,7 @@ tuples_are n l ts (line ∷ ls) p h e =
             told = subst (λ (ms : List (List ℕ)). TupleLines n ms r.tuples) (sym (cond-true (is_skipped line) (kept_lines ls) (line ∷ kept_lines ls) k)) r.told;
           })
       | kept keyword fs k f later ↦ (let u = later_is n l ts line keyword fs q.0 h f later in
-          let r = tuples_are n (l + 1) (ts ++ u.0 ∷ []) ls p h (ap (λ t. lines_at commands.Reduce (l + 1) t ls) (sym u.2) ∙ q.2) in
+          let r = tuples_are command n (l + 1) (ts ++ u.0 ∷ []) ls p h (ap (λ t. lines_at command (l + 1) t ls) (sym u.2) ∙ q.2) in
           record {
             clean = All-cons IsClean line ls told.0 r.clean;
             tuples = u.0 ∷ r.tuples;
@@ -173,31 +173,31 @@ tuples_are n l ts (line ∷ ls) p h e =
 uncons : (n : ℕ) (line : List ℕ) (ls : List (List ℕ)) (us : List TupleData) → TupleLines n (line ∷ ls) us → (u : TupleData) × (vs : List TupleData) × (us ≡ u ∷ vs) × IsTupleLine n line u × TupleLines n ls vs
 uncons n line ls us (more _ u {us = vs} t rest) = (u, vs, refl, t, rest)
 
-tuples_back : (n l : ℕ) (ts : List TupleData) (ls : List (List ℕ)) (us : List TupleData) → n ≤ 26 → All IsClean ls → TupleLines n (kept_lines ls) us →
-    (end : ℕ) × (lines_at commands.Reduce l (told_sheet n ts) ls ≡ Ok (told_sheet n (ts ++ us), end))
+tuples_back : (command : Command) (n l : ℕ) (ts : List TupleData) (ls : List (List ℕ)) (us : List TupleData) → n ≤ 26 → All IsClean ls → TupleLines n (kept_lines ls) us →
+    (end : ℕ) × (lines_at command l (told_sheet n ts) ls ≡ Ok (told_sheet n (ts ++ us), end))
 unfolding lines_at
-tuples_back n l ts [] us h c none = (l, ap (λ vs. Ok (told_sheet n vs, l)) (sym (append-nil ts)))
-tuples_back n l ts (line ∷ ls) us h c t =
+tuples_back command n l ts [] us h c none = (l, ap (λ vs. Ok (told_sheet n vs, l)) (sym (append-nil ts)))
+tuples_back command n l ts (line ∷ ls) us h c t =
     let clean = All-head IsClean line ls c in
     let others = All-tail IsClean line ls c in
     elim (cases_Bool (is_skipped line)) [
-      | inl k ↦ (let r = tuples_back n (l + 1) ts ls us h others (subst (λ (ms : List (List ℕ)). TupleLines n ms us) (cond-true (is_skipped line) (kept_lines ls) (line ∷ kept_lines ls) k) t) in
-          (r.0, ap (λ s. s >>= λ t. lines_at commands.Reduce (l + 1) t ls) (line_skipped commands.Reduce l (told_sheet n ts) line clean k) ∙ r.1))
+      | inl k ↦ (let r = tuples_back command n (l + 1) ts ls us h others (subst (λ (ms : List (List ℕ)). TupleLines n ms us) (cond-true (is_skipped line) (kept_lines ls) (line ∷ kept_lines ls) k) t) in
+          (r.0, ap (λ s. s >>= λ t. lines_at command (l + 1) t ls) (line_skipped command l (told_sheet n ts) line clean k) ∙ r.1))
       | inr k ↦ (let q = uncons n line (kept_lines ls) us (subst (λ (ms : List (List ℕ)). TupleLines n ms us) (cond-false (is_skipped line) (kept_lines ls) (line ∷ kept_lines ls) k) t) in
-          let r = tuples_back n (l + 1) (ts ++ q.0 ∷ []) ls q.1 h others q.4 in (
+          let r = tuples_back command n (l + 1) (ts ++ q.0 ∷ []) ls q.1 h others q.4 in (
             r.0,
-            ap (λ s. s >>= λ t. lines_at commands.Reduce (l + 1) t ls) (later_back n l ts line q.0 h clean k q.3) ∙ r.1
+            ap (λ s. s >>= λ t. lines_at command (l + 1) t ls) (later_back command n l ts line q.0 h clean k q.3) ∙ r.1
                 ∙ ap (λ vs. Ok (told_sheet n vs, r.0)) (append_assoc ts (q.0 ∷ []) q.1 ∙ ap (λ vs. ts ++ vs) (sym q.2)),
           ))
     ]
 
 -- ---- the rank line
-first_is : (l : ℕ) (line : List ℕ) (keyword : Field) (fs : List Field) (told : Sheet) → fields 1 line ≡ keyword ∷ fs →
-    first_line commands.Reduce l blank_sheet keyword fs ≡ Ok told → (n : ℕ) × IsRankLine n line × (1 ≤ n) × (n ≤ 4) × (told ≡ told_sheet n [])
-first_is l line keyword fs told f e =
-    let p = if_ok (are keyword.bytes (codes "rank")) (errors.NoRank l) (rank_at commands.Reduce l fs >>= λ n. Ok (told_sheet n [])) told e in
-    let q = bind_ok (rank_at commands.Reduce l fs) (λ n. Ok (told_sheet n [])) told p.1 in
-    let r = rank_is l q.0 fs q.1 in (
+first_is : (command : Command) (l : ℕ) (line : List ℕ) (keyword : Field) (fs : List Field) (told : Sheet) → fields 1 line ≡ keyword ∷ fs →
+    first_line command l blank_sheet keyword fs ≡ Ok told → (n : ℕ) × IsRankLine n line × (1 ≤ n) × (n ≤ greatest_rank command) × (told ≡ told_sheet n [])
+first_is command l line keyword fs told f e =
+    let p = if_ok (are keyword.bytes (codes "rank")) (errors.NoRank l) (rank_at command l fs >>= λ n. Ok (told_sheet n [])) told e in
+    let q = bind_ok (rank_at command l fs) (λ n. Ok (told_sheet n [])) told p.1 in
+    let r = rank_is command l q.0 fs q.1 in (
       q.0,
       ap (map (λ g. g.bytes)) f ∙ ap (λ w. w ∷ map (λ g. g.bytes) fs) (are_is keyword.bytes (codes "rank") p.0) ∙ ap (λ ws. codes "rank" ∷ ws) r.0,
       r.1,
@@ -205,15 +205,15 @@ first_is l line keyword fs told f e =
       sym (ok_is (told_sheet q.0 []) told q.2),
     )
 
-first_back : (l n : ℕ) (line : List ℕ) → IsClean line → is_skipped line ≡ false → IsRankLine n line → 1 ≤ n → n ≤ 4 → line_at commands.Reduce l blank_sheet line ≡ Ok (told_sheet n [])
-first_back l n line clean e r h g =
+first_back : (command : Command) (l n : ℕ) (line : List ℕ) → IsClean line → is_skipped line ≡ false → IsRankLine n line → 1 ≤ n → n ≤ greatest_rank command → line_at command l blank_sheet line ≡ Ok (told_sheet n [])
+first_back command l n line clean e r h g =
     let p = split_fields (fields 1 line) (codes "rank") (decimal n ∷ []) r in
-    line_kept commands.Reduce l blank_sheet line p.0 p.1 clean e p.2
-    ∙ cond-true (are p.0.bytes (codes "rank")) (rank_at commands.Reduce l p.1 >>= λ n. Ok (told_sheet n [])) (Err (errors.NoRank l)) (are_back p.0.bytes (codes "rank") p.3)
-    ∙ ap (λ r. r >>= λ n. Ok (told_sheet n [])) (rank_back l n p.1 p.4 h g)
+    line_kept command l blank_sheet line p.0 p.1 clean e p.2
+    ∙ cond-true (are p.0.bytes (codes "rank")) (rank_at command l p.1 >>= λ n. Ok (told_sheet n [])) (Err (errors.NoRank l)) (are_back p.0.bytes (codes "rank") p.3)
+    ∙ ap (λ r. r >>= λ n. Ok (told_sheet n [])) (rank_back command l n p.1 p.4 h g)
 
 -- what all lines tell, where they tell a rank
-record RankTold (ls : List (List ℕ)) (s : Sheet) : Type 0 where
+record RankTold (command : Command) (ls : List (List ℕ)) (s : Sheet) : Type 0 where
   clean : All IsClean ls
   rank : ℕ
   rank_line : List ℕ
@@ -221,21 +221,21 @@ record RankTold (ls : List (List ℕ)) (s : Sheet) : Type 0 where
   kept : kept_lines ls ≡ rank_line ∷ rest
   states : IsRankLine rank rank_line
   least : 1 ≤ rank
-  greatest : rank ≤ 4
+  greatest : rank ≤ greatest_rank command
   tuples : List TupleData
   told : TupleLines rank rest tuples
   sheet : s ≡ told_sheet rank tuples
 
-ranks_are : (l m : ℕ) (ls : List (List ℕ)) (p : Sheet × ℕ) → p.0.rank ≡ Some m → lines_at commands.Reduce l blank_sheet ls ≡ Ok p → RankTold ls p.0
+ranks_are : (command : Command) (l m : ℕ) (ls : List (List ℕ)) (p : Sheet × ℕ) → p.0.rank ≡ Some m → lines_at command l blank_sheet ls ≡ Ok p → RankTold command ls p.0
 unfolding lines_at
-ranks_are l m [] p r e =
+ranks_are command l m [] p r e =
     let no : ◌≡◌ {A = Option ℕ} None (Some m) = ap (λ q. q.0.rank) (ok_is (blank_sheet, l) p e) ∙ r in
     absurd (cc)
-ranks_are l m (line ∷ ls) p r e =
-    let q = bind_ok (line_at commands.Reduce l blank_sheet line) (λ t. lines_at commands.Reduce (l + 1) t ls) p e in
-    let told = line_is commands.Reduce l blank_sheet line q.0 q.1 in
+ranks_are command l m (line ∷ ls) p r e =
+    let q = bind_ok (line_at command l blank_sheet line) (λ t. lines_at command (l + 1) t ls) p e in
+    let told = line_is command l blank_sheet line q.0 q.1 in
     elim told.1 [
-      | skipped k same ↦ (let u = ranks_are (l + 1) m ls p r (ap (λ t. lines_at commands.Reduce (l + 1) t ls) (sym same) ∙ q.2) in
+      | skipped k same ↦ (let u = ranks_are command (l + 1) m ls p r (ap (λ t. lines_at command (l + 1) t ls) (sym same) ∙ q.2) in
           record {
             clean = All-cons IsClean line ls told.0 u.clean;
             rank = u.rank;
@@ -249,8 +249,8 @@ ranks_are l m (line ∷ ls) p r e =
             told = u.told;
             sheet = u.sheet;
           })
-      | kept keyword fs k f first ↦ (let u = first_is l line keyword fs q.0 f first in
-          let v = tuples_are u.0 (l + 1) [] ls p (omega (arith, u.3)) (ap (λ t. lines_at commands.Reduce (l + 1) t ls) (sym u.4) ∙ q.2) in
+      | kept keyword fs k f first ↦ (let u = first_is command l line keyword fs q.0 f first in
+          let v = tuples_are command u.0 (l + 1) [] ls p (omega (arith, u.3, rank_within command)) (ap (λ t. lines_at command (l + 1) t ls) (sym u.4) ∙ q.2) in
           record {
             clean = All-cons IsClean line ls told.0 v.clean;
             rank = u.0;
@@ -266,21 +266,21 @@ ranks_are l m (line ∷ ls) p r e =
           })
     ]
 
-ranks_back : (l n : ℕ) (ls : List (List ℕ)) (rank_line : List ℕ) (rest : List (List ℕ)) (us : List TupleData) → All IsClean ls → kept_lines ls ≡ rank_line ∷ rest →
-    IsRankLine n rank_line → 1 ≤ n → n ≤ 4 → TupleLines n rest us → (end : ℕ) × (lines_at commands.Reduce l blank_sheet ls ≡ Ok (told_sheet n us, end))
+ranks_back : (command : Command) (l n : ℕ) (ls : List (List ℕ)) (rank_line : List ℕ) (rest : List (List ℕ)) (us : List TupleData) → All IsClean ls → kept_lines ls ≡ rank_line ∷ rest →
+    IsRankLine n rank_line → 1 ≤ n → n ≤ greatest_rank command → TupleLines n rest us → (end : ℕ) × (lines_at command l blank_sheet ls ≡ Ok (told_sheet n us, end))
 unfolding lines_at
-ranks_back l n [] rank_line rest us c e r h g t = absurd (cc)
-ranks_back l n (line ∷ ls) rank_line rest us c e r h g t =
+ranks_back command l n [] rank_line rest us c e r h g t = absurd (cc)
+ranks_back command l n (line ∷ ls) rank_line rest us c e r h g t =
     let clean = All-head IsClean line ls c in
     let others = All-tail IsClean line ls c in
     elim (cases_Bool (is_skipped line)) [
-      | inl k ↦ (let u = ranks_back (l + 1) n ls rank_line rest us others (sym (cond-true (is_skipped line) (kept_lines ls) (line ∷ kept_lines ls) k) ∙ e) r h g t in
-          (u.0, ap (λ s. s >>= λ t. lines_at commands.Reduce (l + 1) t ls) (line_skipped commands.Reduce l blank_sheet line clean k) ∙ u.1))
+      | inl k ↦ (let u = ranks_back command (l + 1) n ls rank_line rest us others (sym (cond-true (is_skipped line) (kept_lines ls) (line ∷ kept_lines ls) k) ∙ e) r h g t in
+          (u.0, ap (λ s. s >>= λ t. lines_at command (l + 1) t ls) (line_skipped command l blank_sheet line clean k) ∙ u.1))
       | inr k ↦ (let f : line ∷ kept_lines ls ≡ rank_line ∷ rest = sym (cond-false (is_skipped line) (kept_lines ls) (line ∷ kept_lines ls) k) ∙ e in
           let same : line ≡ rank_line = (cc) in
           let left : kept_lines ls ≡ rest = (cc) in
-          let u = tuples_back n (l + 1) [] ls us (omega (arith, g)) others (subst (λ (ms : List (List ℕ)). TupleLines n ms us) (sym left) t) in
-          (u.0, ap (λ s. s >>= λ t. lines_at commands.Reduce (l + 1) t ls) (first_back l n line clean k (subst (IsRankLine n) (sym same) r) h g) ∙ u.1))
+          let u = tuples_back command n (l + 1) [] ls us (omega (arith, g, rank_within command)) others (subst (λ (ms : List (List ℕ)). TupleLines n ms us) (sym left) t) in
+          (u.0, ap (λ s. s >>= λ t. lines_at command (l + 1) t ls) (first_back command l n line clean k (subst (IsRankLine n) (sym same) r) h g) ∙ u.1))
     ]
 
 -- ---- the whole
@@ -305,7 +305,7 @@ text_is bytes t e =
     let size = unless_ok (ltb most_bytes (length bytes)) (errors.InputTooLong most_bytes) (lines_at commands.Reduce 1 blank_sheet (lines bytes) >>= λ s. whole commands.Reduce s.1 s.0.tuples s.0.rank) (reduce t) e in
     let p = bind_ok (lines_at commands.Reduce 1 blank_sheet (lines bytes)) (λ s. whole commands.Reduce s.1 s.0.tuples s.0.rank) (reduce t) size.1 in
     let w = whole_is p.0.1 p.0.0.tuples p.0.0.rank t p.2 in
-    let r = ranks_are 1 w.0 (lines bytes) p.0 w.1 p.1 in
+    let r = ranks_are commands.Reduce 1 w.0 (lines bytes) p.0 w.1 p.1 in
     let tuples : r.tuples ≡ t ∷ [] = ap (λ s. s.tuples) (sym r.sheet) ∙ w.2 in
     let d = one_line r.rank r.rest t (subst (TupleLines r.rank r.rest) tuples r.told) in
     let rank : r.rank ≡ t.rank = ap (λ v. v.rank) (sym d.2.cyclic) in (
@@ -325,7 +325,7 @@ text_is bytes t e =
 text_back : (bytes : List ℕ) (t : TupleData) → length bytes ≤ most_bytes → IsReduceText bytes t → problem commands.Reduce bytes ≡ Ok (reduce t)
 unfolding problem
 text_back bytes t h x =
-    let r = ranks_back 1 t.rank (lines bytes) x.rank_line (x.tuple_line ∷ []) (t ∷ []) x.clean x.kept x.rank x.least x.greatest (more x.tuple_line t x.tuple none) in
+    let r = ranks_back commands.Reduce 1 t.rank (lines bytes) x.rank_line (x.tuple_line ∷ []) (t ∷ []) x.clean x.kept x.rank x.least x.greatest (more x.tuple_line t x.tuple none) in
     cond-false (ltb most_bytes (length bytes)) (Err (errors.InputTooLong most_bytes)) (lines_at commands.Reduce 1 blank_sheet (lines bytes) >>= λ s. whole commands.Reduce s.1 s.0.tuples s.0.rank) (is_not_more most_bytes (length bytes) h)
     ∙ ap (λ r. r >>= λ s. whole commands.Reduce s.1 s.0.tuples s.0.rank) r.1
 

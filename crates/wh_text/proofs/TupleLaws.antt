@@ -9,6 +9,7 @@ use Rattle.std.proofs.lemmas.Bool.Decides.{nat_tests}
 use Rattle.wh_words.specs.Words.{IsOfRank}
 use Rattle.wh_words.specs.CyclicWords.{cyclic_word}
 use Rattle.wh_words.specs.Tuples.{TupleData}
+use Rattle.wh_text.specs.declared.command.Command.{Command}
 use Rattle.wh_text.specs.declared.command.Command.TheVariants as commands
 use Rattle.wh_text.specs.declared.read_error.ReadError.TheVariants as errors
 use Rattle.wh_text.specs.Lines.{Field, joined, fields}
@@ -16,7 +17,7 @@ use Rattle.wh_text.specs.Readings.{◌>>=◌}
 use Rattle.wh_text.specs.Numbers.{number}
 use Rattle.wh_text.specs.Spellings.{word_at, word_text}
 use Rattle.wh_text.specs.TupleLines.{items_at, words_at, short_tuple, tuple_at}
-use Rattle.wh_text.specs.Problems.{rank_at, rank_number, allowed_rank}
+use Rattle.wh_text.specs.Problems.{greatest_rank, rank_at, rank_number, allowed_rank}
 use Rattle.wh_text.proofs.Items.{bind_ok, ok_is, words_read}
 use Rattle.wh_text.proofs.NumberLaws.{reads_numbers}
 use Rattle.wh_text.proofs.WordLaws.{reads_words}
@@ -103,32 +104,36 @@ tuple_back n l fs t h g s =
     ∙ sym (ap (λ v. Ok v) s.cyclic)
 
 -- ---- ranks
-in_range : (k : ℕ) → (leb 1 k && leb k 26) ≡ true → leb k 4 ≡ true → (1 ≤ k) × (k ≤ 4)
-in_range k e f = (grind (arith, nat_tests), grind (arith, nat_tests))
+in_range : (most k : ℕ) → (leb 1 k && leb k 26) ≡ true → leb k most ≡ true → (1 ≤ k) × (k ≤ most)
+in_range most k e f = (grind (arith, nat_tests), grind (arith, nat_tests))
 
-is_in_range : (k : ℕ) → 1 ≤ k → k ≤ 4 → ((leb 1 k && leb k 26) ≡ true) × (leb k 4 ≡ true)
-is_in_range k h g = (grind (arith, nat_tests), grind (arith, nat_tests))
+is_in_range : (most k : ℕ) → most ≤ 26 → 1 ≤ k → k ≤ most → ((leb 1 k && leb k 26) ≡ true) × (leb k most ≡ true)
+is_in_range most k m h g = (grind (arith, nat_tests), grind (arith, nat_tests))
 
-number_is : (l n : ℕ) (o : Option ℕ) → rank_number commands.Reduce l o ≡ Ok n → (o ≡ Some n) × (1 ≤ n) × (n ≤ 4)
-number_is l n None e = absurd (cc)
-number_is l n (Some k) e =
-    let p = if_ok (leb 1 k && leb k 26) (errors.RankRange l) (allowed_rank commands.Reduce k) n e in
-    let q = if_ok (leb k 4) (errors.LevelRank k) (Ok k) n p.1 in
-    let r = in_range k p.0 q.0 in
+pub rank_within : (command : Command) → greatest_rank command ≤ 26
+rank_within commands.Reduce = omega arith
+
+number_is : (command : Command) (l n : ℕ) (o : Option ℕ) → rank_number command l o ≡ Ok n → (o ≡ Some n) × (1 ≤ n) × (n ≤ greatest_rank command)
+number_is command l n None e = absurd (cc)
+number_is command l n (Some k) e =
+    let p = if_ok (leb 1 k && leb k 26) (errors.RankRange l) (allowed_rank command k) n e in
+    let q = if_ok (leb k (greatest_rank command)) (errors.LevelRank k) (Ok k) n p.1 in
+    let r = in_range (greatest_rank command) k p.0 q.0 in
     let s : k ≡ n = ok_is k n q.1 in
     (ap (λ m. Some m) s, omega (arith, s, r.0), omega (arith, s, r.1))
 
-pub rank_is : (l n : ℕ) (fs : List Field) → rank_at commands.Reduce l fs ≡ Ok n → (map (λ f. f.bytes) fs ≡ decimal n ∷ []) × (1 ≤ n) × (n ≤ 4)
-rank_is l n [] e = absurd (cc)
-rank_is l n (f ∷ []) e = let p = number_is l n (number f.bytes) e in (ap (λ v. v ∷ []) ((reads_numbers f.bytes n).0 p.0).0, p.1, p.2)
-rank_is l n (f ∷ g ∷ fs) e = absurd (cc)
+pub rank_is : (command : Command) (l n : ℕ) (fs : List Field) → rank_at command l fs ≡ Ok n → (map (λ f. f.bytes) fs ≡ decimal n ∷ []) × (1 ≤ n) × (n ≤ greatest_rank command)
+rank_is command l n [] e = absurd (cc)
+rank_is command l n (f ∷ []) e = let p = number_is command l n (number f.bytes) e in (ap (λ v. v ∷ []) ((reads_numbers f.bytes n).0 p.0).0, p.1, p.2)
+rank_is command l n (f ∷ g ∷ fs) e = absurd (cc)
 
-pub rank_back : (l n : ℕ) (fs : List Field) → map (λ f. f.bytes) fs ≡ decimal n ∷ [] → 1 ≤ n → n ≤ 4 → rank_at commands.Reduce l fs ≡ Ok n
-rank_back l n [] e h g = absurd (cc)
-rank_back l n (f ∷ []) e h g =
+pub rank_back : (command : Command) (l n : ℕ) (fs : List Field) → map (λ f. f.bytes) fs ≡ decimal n ∷ [] → 1 ≤ n → n ≤ greatest_rank command → rank_at command l fs ≡ Ok n
+rank_back command l n [] e h g = absurd (cc)
+rank_back command l n (f ∷ []) e h g =
     let spelled : f.bytes ≡ decimal n = (cc) in
-    let range = is_in_range n h g in
-    ap (rank_number commands.Reduce l) ((reads_numbers f.bytes n).1 (spelled, omega (arith, g)))
-    ∙ cond-true (leb 1 n && leb n 26) (allowed_rank commands.Reduce n) (Err (errors.RankRange l)) range.0
-    ∙ cond-true (leb n 4) (Ok n) (Err (errors.LevelRank n)) range.1
-rank_back l n (f ∷ g ∷ fs) e h i = absurd (cc)
+    let most = rank_within command in
+    let range = is_in_range (greatest_rank command) n most h g in
+    ap (rank_number command l) ((reads_numbers f.bytes n).1 (spelled, omega (arith, g, most)))
+    ∙ cond-true (leb 1 n && leb n 26) (allowed_rank command n) (Err (errors.RankRange l)) range.0
+    ∙ cond-true (leb n (greatest_rank command)) (Ok n) (Err (errors.LevelRank n)) range.1
+rank_back command l n (f ∷ g ∷ fs) e h i = absurd (cc)

@@ -9,6 +9,7 @@ use Rattle.wh_text.specs.declared.answer.Answer.{Answer}
 use Rattle.wh_text.specs.declared.answer.Answer.TheVariants as answers
 use Rattle.wh_text.specs.declared.answer.Side.{Side}
 use Rattle.wh_text.specs.Spellings.{letter_text, word_text}
+use Rattle.wh_text.specs.FlowTexts.{flows_text, HaveLines}
 
 -- The letters of a set whose index is below k, rising.
 unfoldable pub set_below : ℕ → ℕ → List ℕ
@@ -39,7 +40,11 @@ moves_text ms = flat_map move_field ms ++ codes "\n"
 
 -- The lines of a side.
 unfoldable pub side_text : Side → List ℕ
-side_text s = codes "trace" ++ moves_text s.trace ++ codes "end" ++ words_text s.end.plain.words
+side_text s = codes "trace" ++ moves_text s.trace ++ codes "end" ++ words_text s.end.plain.words ++ flows_text s.end.plain.rank s.flows
+
+-- A side can be printed: it has a flow for each generator of the rank of its end.
+abbrev pub IsPrintableSide : Side → Type 0
+IsPrintableSide s = HaveLines s.end.plain.rank s.flows
 
 -- The lines of the answer of `reduce` between the first and the last.
 abbrev pub reduced_text : Tuple → Side → List ℕ
@@ -48,3 +53,7 @@ reduced_text t s = codes "rank " ++ decimal t.plain.rank ++ codes "\n" ++ codes 
 -- The text of an answer.
 unfoldable pub answer_text : Answer → List ℕ
 answer_text (answers.Reduce t s) = codes "whitehead 1 reduce\n" ++ reduced_text t s ++ codes "done\n"
+
+-- An answer can be printed: each of its sides can.
+abbrev pub IsPrintable : Answer → Type 0
+IsPrintable (answers.Reduce t s) = IsPrintableSide s

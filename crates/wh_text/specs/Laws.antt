@@ -102,7 +102,7 @@ pub record IsTupleLine (n : ℕ) (line : List ℕ) (t : TupleData) : Type 0 wher
   pub short : sum_by length written ≤ 4096
   pub cyclic : t ≡ record { rank = n; words = map cyclic_word written }
 
--- The text states a problem of `reduce`: its kept lines are a line with a rank of 1 to 4, and a line with the tuple.
+-- The text states a problem of `reduce`: its kept lines are a line with a rank of 1 to 26, and a line with the tuple.
 pub record IsReduceText (bytes : List ℕ) (t : TupleData) : Type 0 where
   pub clean : All IsClean (lines bytes)
   pub rank_line : List ℕ
@@ -110,7 +110,7 @@ pub record IsReduceText (bytes : List ℕ) (t : TupleData) : Type 0 where
   pub kept : kept_lines (lines bytes) ≡ rank_line ∷ tuple_line ∷ []
   pub rank : IsRankLine t.rank rank_line
   pub least : 1 ≤ t.rank
-  pub greatest : t.rank ≤ 4
+  pub greatest : t.rank ≤ 26
   pub tuple : IsTupleLine t.rank tuple_line t
 
 -- A problem of `reduce` is read exactly from a text that states it and isn't too long.

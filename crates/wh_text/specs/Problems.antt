@@ -27,7 +27,7 @@ most_bytes = 1048576
 
 -- The greatest rank of a command's problems.
 abbrev pub greatest_rank : Command → ℕ
-greatest_rank commands.Reduce = 4
+greatest_rank commands.Reduce = 26
 
 -- What the lines so far have told.
 pub record Sheet : Type 0 where

@@ -1,4 +1,5 @@
 //! Answers.
+use wh_flow::Flow;
 use wh_moves::Move;
 use wh_words::{List, Tuple};
 
@@ -9,6 +10,8 @@ pub struct Side {
     pub trace: List<Move>,
     /// The tuple at the end of the trace.
     pub end: Tuple,
+    /// For each generator a flow from it to its inverse in the graph of the end.
+    pub flows: List<Flow>,
 }
 
 /// What a command answers.

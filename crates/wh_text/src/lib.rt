@@ -4,6 +4,7 @@
 mod answer;
 mod command;
 mod field;
+mod flow_line;
 pub mod laws;
 mod line;
 mod number;

@@ -2,16 +2,17 @@
 ghost use Rattle.std.specs.Prelude.{◌≡◌, ◌++◌, map, IfOk, OnOk, decimal};
 ghost use Rattle.std.specs.List.{flat_map};
 ghost use Rattle.wh_text.specs.Spellings as spelling;
-ghost use Rattle.wh_text.specs.AnswerTexts.{word_field, words_text, moves_text, move_field, set_below, side_text, reduced_text, answer_text};
+ghost use Rattle.wh_text.specs.AnswerTexts.{word_field, words_text, moves_text, move_field, set_below, side_text, reduced_text, answer_text, IsPrintableSide, IsPrintable};
 
 use crate::answer::{Answer, Side};
+use crate::flow_line::push_flows;
 use itoa::Buffer;
 use std::alloc::Global;
 use wh_moves::{Kind, Move};
 use wh_words::{Letter, LetterSet, OutOfMemory, Tuple};
 
 /// The byte of a letter.
-fn letter_byte(x: Letter) -> u8
+pub fn letter_byte(x: Letter) -> u8
     ensures { result ≡ spelling.letter_text x }
 {
     if x.index() % 2 == 0 {
@@ -114,16 +115,19 @@ fn push_moves(out: &mut Vec<u8>, moves: &[Move]) -> Result<(), OutOfMemory>
 /// Writes the lines of a side.
 #[tactic(auto, unfolding(crate::specs::AnswerTexts::side_text))]
 fn push_side(out: &mut Vec<u8>, side: &Side) -> Result<(), OutOfMemory>
+    requires { IsPrintableSide side.now }
     ensures { OnOk result (out.new.items ≡ out.old.items ++ side_text side.now) }
 {
     out.extend_from_slice(b"trace")?;
     push_moves(out, side.trace.items())?;
     out.extend_from_slice(b"end")?;
-    push_words(out, &side.end)
+    push_words(out, &side.end)?;
+    push_flows(out, side.end.rank(), side.flows.items())
 }
 
 /// Writes all lines of the answer of `reduce` but the first and the last.
 fn push_reduced(out: &mut Vec<u8>, tuple: &Tuple, side: &Side) -> Result<(), OutOfMemory>
+    requires { IsPrintableSide side.now }
     ensures { OnOk result (out.new.items ≡ out.old.items ++ reduced_text tuple.now side.now) }
 {
     out.extend_from_slice(b"rank ")?;
@@ -133,10 +137,12 @@ fn push_reduced(out: &mut Vec<u8>, tuple: &Tuple, side: &Side) -> Result<(), Out
     push_side(out, side)
 }
 
-/// The text of an answer: a heading, the rank, the lines of its command, and `done`. OutOfMemory comes where there is no
-/// memory for the text.
+/// The text of an answer: a heading, the rank, the lines of its command, and `done`. Each side has one flow for each
+/// generator of the end's rank, whose value from the generator to its inverse is from 0 to 4,294,967,295. OutOfMemory
+/// comes where there is no memory for the text.
 #[tactic(auto, unfolding(crate::specs::AnswerTexts::answer_text))]
 pub fn print_answer(alloc: Global, answer: &Answer) -> Result<Vec<u8>, OutOfMemory>
+    requires { IsPrintable answer.now }
     ensures { IfOk result (λ v. v.items ≡ answer_text answer.now) }
 {
     let mut out = Vec::new(alloc);

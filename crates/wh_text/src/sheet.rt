@@ -36,7 +36,7 @@ fn greatest_rank(command: Command) -> u64
     ensures { result ≡ spec.greatest_rank command }
 {
     match command {
-        Command::Reduce => 4,
+        Command::Reduce => 26,
     }
 }
 
