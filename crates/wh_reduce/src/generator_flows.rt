@@ -1,6 +1,7 @@
 //! The flows that show that a tuple is tight.
 ghost use Rattle.std.specs.Prelude.{◌≡◌, ◌*◌, ◌<◌, IfOk};
 ghost use Rattle.wh_words.specs.Letters.{inverse_letter};
+ghost use Rattle.wh_words.specs.Tuples.{IsRoomed};
 ghost use Rattle.wh_words.specs.Flows.{IsFirstFlow, HasValue, degree};
 ghost use Rattle.wh_words.specs.CapacityTraces.{IsTight};
 ghost use Rattle.wh_flow.specs.Nets.{cell};
@@ -30,7 +31,8 @@ fn flow_of(net: &Net, letter: Letter) -> Flow
 /// memory for the list of flows alone.
 pub fn flows(alloc: Global, tuple: &Tuple) -> Result<Vec<Flow>, OutOfMemory>
     requires { IsTight tuple.now.plain }
-    ensures { IfOk result (λ v. AreFlows tuple.now.plain v.items) }
+    ensures flows { IfOk result (λ v. AreFlows tuple.now.plain v.items) }
+    ensures roomed { IsRoomed tuple.now }
 {
     let net = graph(tuple);
     let rank = tuple.rank().get();

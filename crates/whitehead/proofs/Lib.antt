@@ -2,3 +2,4 @@ pub mod Simple
 pub mod Parsed
 pub mod Pieces
 pub mod Telling
+pub mod Sides

@@ -1,12 +1,13 @@
 //! The reply to the bytes of an input.
 ghost use Rattle.std.specs.Prelude.{IfOk};
 ghost use Rattle.wh_text.specs.Problems.{problem_of};
-ghost use Rattle.whitehead.specs.Replies.{Answers, Replies};
+ghost use Rattle.wh_text.specs.AnswerTexts.{IsPrintable, IsPrintableSide};
+ghost use Rattle.whitehead.specs.Replies.{Answers, IsSideOf, Replies};
 
 use std::alloc::Global;
-use wh_reduce::reduce;
+use wh_reduce::{flows, reduce};
 use wh_text::{Answer, Command, Problem, ReadError, Side, Status, print_answer, print_refusal, read_problem};
-use wh_words::{List, OutOfMemory};
+use wh_words::{List, OutOfMemory, Tuple};
 
 /// A status and a text.
 #[derive(Debug, Drop)]
@@ -15,17 +16,28 @@ pub struct Reply {
     pub text: List<u8>,
 }
 
+/// The side of a tuple: its trace, with the end of that, and the flows of the end.
+fn side_of(alloc: Global, tuple: &Tuple) -> Result<Side, OutOfMemory>
+    ensures side { IfOk result (IsSideOf tuple.now.plain) }
+    ensures printable { IfOk result IsPrintableSide }
+{
+    let trace = reduce(alloc, tuple)?;
+    let flows = flows(alloc, &trace.end)?;
+    Ok(Side {
+        trace: trace.moves,
+        end: trace.end,
+        flows: List::of(flows),
+    })
+}
+
 /// The answer to a problem.
 fn answer_to(alloc: Global, problem: Problem) -> Result<Answer, OutOfMemory>
-    ensures { IfOk result (Answers (problem_of problem)) }
+    ensures answers { IfOk result (Answers (problem_of problem)) }
+    ensures printable { IfOk result IsPrintable }
 {
     match problem {
         Problem::Reduce { tuple } => {
-            let trace = reduce(alloc, &tuple)?;
-            let side = Side {
-                trace: trace.moves,
-                end: trace.end,
-            };
+            let side = side_of(alloc, &tuple)?;
             Ok(Answer::Reduce { tuple, side })
         }
     }

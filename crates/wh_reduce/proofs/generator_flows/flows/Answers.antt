@@ -15,8 +15,8 @@ loop-generator-preserved c =
     c.flow_of.result c.of_index.result (omega (arith, c.of_index.ensures, c.loop-generator-test.true, c.get-rank.ensures.greatest, c.get-rank.ensures.same))
     c.flow_of.ensures.first c.flow_of.ensures.value))
 
-pub returns : goal.returns
-returns c =
+pub returns-clause-flows : goal.returns-clause-flows
+returns-clause-flows c =
     let all : c.loop-generator.generator ≡ c.args.tuple.now.plain.rank = omega (arith, c.loop-generator-test.false, c.loop-generator.auto.generator-end, c.get-rank.ensures.same, c.rank.ensures.rank) in
     record {
       count = c.loop-generator.invariant.count ∙ all;
