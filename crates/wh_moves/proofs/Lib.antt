@@ -1,2 +1,5 @@
 pub mod ActedWords
 pub mod CutLetters
+pub mod InverseMoves
+pub mod Masks
+pub mod Substitutions

@@ -3,6 +3,7 @@
 
 mod action;
 mod image_words;
+pub mod laws;
 mod letter_images;
 mod moves;
 
