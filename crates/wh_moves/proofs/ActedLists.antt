@@ -1,10 +1,10 @@
 -- The tuples on the way of a list of moves, move by move.
-use Rattle.std.proofs.Common.{◌≡◌, ℕ, zero, suc, ◌+◌, ◌<◌, ◌≤◌, List, [], ◌∷◌, ◌++◌, length, get_or, take, map, refl, sym, ap, ◌∙◌, subst, inl, inr, arith}
+use Rattle.std.proofs.Common.{◌≡◌, ℕ, ◌+◌, ◌<◌, ◌≤◌, List, [], ◌∷◌, ◌++◌, length, get_or, take, refl, sym, ap, ◌∙◌, subst, inl, inr, arith}
 use Rattle.std.proofs.lemmas.Bool.{cases_lt}
 use Rattle.std.proofs.lemmas.List.{take_more, take_all, length-map}
 use Rattle.std.proofs.lemmas.List.Sums.{sum_by_push, sum_by-take-le}
 use Rattle.std.proofs.lemmas.List.Elements.{All-get_or}
-use Rattle.std.specs.List.{All, sum_by}
+use Rattle.std.specs.List.{sum_by}
 use Rattle.wh_words.specs.Words.{IsOfRank}
 use Rattle.wh_words.specs.CyclicWords.{cyclic_word, IsCyclicallyReduced}
 use Rattle.wh_words.specs.Tuples.{TupleData, Tuple, IsTuple, tuple_length, with_word, in_rooms_of}
@@ -37,8 +37,15 @@ copied_more t i w is h e = ap (λ v. take i t.words ++ v ∷ []) (own_word t i w
 pub word_fits : (t : TupleData) (made : Tuple) (i : ℕ) (w : List ℕ) → IsTuple t → i < length t.words → w ≡ get_or t.words i [] → made ≡ copied t i →
     tuple_length made.plain + length (cyclic_word w) ≤ made.room
 word_fits t made i w is h e m =
-    omega (arith, ap (λ (u : Tuple). tuple_length u.plain) m, ap (λ (u : Tuple). u.room) m, is.short, sum_by-take-le length t.words (i + 1),
-      ap (sum_by length) (copied_more t i w is h e), sum_by_push length (take i t.words) (cyclic_word w))
+    omega (
+      arith,
+      ap (λ (u : Tuple). tuple_length u.plain) m,
+      ap (λ (u : Tuple). u.room) m,
+      is.short,
+      sum_by-take-le length t.words (i + 1),
+      ap (sum_by length) (copied_more t i w is h e),
+      sum_by_push length (take i t.words) (cyclic_word w),
+    )
 
 pub word_more : (t : TupleData) (made new : Tuple) (i : ℕ) (w : List ℕ) → IsTuple t → i < length t.words → w ≡ get_or t.words i [] → made ≡ copied t i →
     new ≡ with_word made (cyclic_word w) → new ≡ copied t (i + 1)

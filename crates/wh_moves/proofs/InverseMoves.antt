@@ -1,5 +1,5 @@
 -- The inverse of a move undoes it.
-use Rattle.std.proofs.Common.{◌≡◌, ◌≢◌, ℕ, ◌+◌, ◌-◌, ◌*◌, ◌/◌, ◌^◌, ◌<◌, ◌≤◌, ◌==◌, Bool, true, false, cond, List, [], ◌∷◌, ◌++◌, map, refl, sym, ap, ◌∙◌, inl, inr, arith, append-nil}
+use Rattle.std.proofs.Common.{◌≡◌, ◌≢◌, ℕ, ◌+◌, ◌-◌, ◌*◌, ◌/◌, ◌^◌, ◌<◌, ◌==◌, Bool, true, false, cond, List, [], ◌∷◌, ◌++◌, map, refl, sym, ap, ◌∙◌, inl, inr, arith, append-nil}
 use Rattle.std.proofs.lemmas.Bool.{cases_eq, eq-eqb, ne_eqb}
 use Rattle.std.proofs.lemmas.Bool.Decides.{nat_tests}
 use Rattle.std.proofs.lemmas.Nat.Bits.{same_from_bits_below}
@@ -11,11 +11,10 @@ use Rattle.wh_words.specs.Letters.{inverse_letter}
 use Rattle.wh_words.specs.LetterSets.{in_set}
 use Rattle.wh_words.specs.Words.{free_reduction, put_before}
 use Rattle.wh_words.specs.CyclicWords.{cyclic_word}
-use Rattle.wh_words.specs.Tuples.{TupleData}
-use Rattle.wh_words.specs.Moves.{Move, Kind, IsKind, IsCut, IsMove, turned_set, inverse_kind, inverse_move}
+use Rattle.wh_words.specs.Moves.{Kind, IsKind, IsCut, turned_set, inverse_kind}
 use Rattle.wh_words.specs.Moves.Kind.{swap, invert, cut}
 use Rattle.wh_words.specs.Images.{image, swap_letter, invert_letter, inverse_word}
-use Rattle.wh_words.specs.Action.{substitute, act}
+use Rattle.wh_words.specs.Action.{substitute}
 use Rattle.wh_moves.specs.Laws.{InverseIsMove, InverseOfInverse, InverseUndoes}
 use Rattle.wh_words.proofs.FreeReduction.{inverse-inverse, inverse-other, inverse_generator, free_reduction-append_left, free_reduction-pair}
 use Rattle.wh_words.proofs.LawProofs.{cancels}
@@ -144,19 +143,19 @@ cut_undone n a set x c = elim (cases_eq (x / 2) (a / 2)) [
       ∙ ap (λ u. free_reduction (u ++ [])) (own_image (inverse_letter a) (turned_set a set) x (e ∙ sym (inverse_generator a))))
   | inr n ↦ (
       let same : in_set (turned_set a set) x ≡ in_set set x =
-          ap (λ d. d == 1) (turned_other a set c.holds c.omits x (λ e. n (ap (λ z. z / 2) e)) (λ e. n (ap (λ z. z / 2) e ∙ inverse_generator a))) in
+      ap (λ d. d == 1) (turned_other a set c.holds c.omits x (λ e. n (ap (λ z. z / 2) e)) (λ e. n (ap (λ z. z / 2) e ∙ inverse_generator a))) in
       let same' : in_set (turned_set a set) (inverse_letter x) ≡ in_set set (inverse_letter x) =
-          ap (λ d. d == 1) (turned_other a set c.holds c.omits (inverse_letter x)
-            (λ e. n (sym (inverse_generator x) ∙ ap (λ z. z / 2) e))
-            (λ e. n (sym (inverse_generator x) ∙ ap (λ z. z / 2) e ∙ inverse_generator a))) in
+      ap (λ d. d == 1) (turned_other a set c.holds c.omits (inverse_letter x)
+      (λ e. n (sym (inverse_generator x) ∙ ap (λ z. z / 2) e))
+      (λ e. n (sym (inverse_generator x) ∙ ap (λ z. z / 2) e ∙ inverse_generator a))) in
       ap (λ v. free_reduction (substitute (cut (inverse_letter a) (turned_set a set)) v)) (other_image a set x n)
       ∙ around_undone (image (cut (inverse_letter a) (turned_set a set))) a x
-        (own_image (inverse_letter a) (turned_set a set) a (sym (inverse_generator a)))
-        (own_image (inverse_letter a) (turned_set a set) (inverse_letter a) refl)
-        (in_set set (inverse_letter x)) (in_set set x)
-        (other_image (inverse_letter a) (turned_set a set) x (λ e. n (e ∙ inverse_generator a))
-          ∙ ap (λ b. around b (in_set (turned_set a set) x) (inverse_letter a) x) same'
-          ∙ ap (λ b. around (in_set set (inverse_letter x)) b (inverse_letter a) x) same))
+      (own_image (inverse_letter a) (turned_set a set) a (sym (inverse_generator a)))
+      (own_image (inverse_letter a) (turned_set a set) (inverse_letter a) refl)
+      (in_set set (inverse_letter x)) (in_set set x)
+      (other_image (inverse_letter a) (turned_set a set) x (λ e. n (e ∙ inverse_generator a))
+      ∙ ap (λ b. around b (in_set (turned_set a set) x) (inverse_letter a) x) same'
+      ∙ ap (λ b. around (in_set set (inverse_letter x)) b (inverse_letter a) x) same))
 ]
 
 letter_undone : (n : ℕ) (k : Kind) (x : ℕ) → IsKind n k → free_reduction (substitute (inverse_kind k) (image k x)) ≡ x ∷ []
@@ -190,7 +189,7 @@ words_undone : (n : ℕ) (k : Kind) (ws : List (List ℕ)) → IsKind n k → Al
 words_undone n k [] h own = refl
 words_undone n k (w ∷ ws) h own =
     ap (λ v. v ∷ map (λ w. cyclic_word (substitute (inverse_kind k) w)) (map (λ w. cyclic_word (substitute k w)) ws))
-      (class_undone n k w h (All-head (λ w. cyclic_word w ≡ w) w ws own))
+    (class_undone n k w h (All-head (λ w. cyclic_word w ≡ w) w ws own))
     ∙ ap (λ vs. w ∷ vs) (words_undone n k ws h (All-tail (λ w. cyclic_word w ≡ w) w ws own))
 
 pub undone : InverseUndoes
