@@ -1,14 +1,14 @@
 -- The tuple after a move, word by word.
-use Rattle.std.proofs.Common.{◌≡◌, ℕ, zero, suc, ◌+◌, ◌-◌, ◌*◌, ◌<◌, ◌≤◌, List, [], ◌∷◌, ◌++◌, length, get_or, take, drop, map, refl, sym, ap, ◌∙◌, subst, arith, length-append, length-take}
-use Rattle.std.proofs.lemmas.List.{take_more, map_more, length-map}
+use Rattle.std.proofs.Common.{◌≡◌, ℕ, zero, suc, ◌+◌, ◌*◌, ◌<◌, ◌≤◌, List, [], ◌∷◌, ◌++◌, length, get_or, take, map, sym, ap, ◌∙◌, arith, length-take}
+use Rattle.std.proofs.lemmas.List.{map_more, length-map}
 use Rattle.std.proofs.lemmas.List.Sums.{sum_by_push, sum_by-cons}
-use Rattle.std.specs.List.{All, sum_by}
+use Rattle.std.specs.List.{sum_by}
 use Rattle.wh_words.specs.CyclicWords.{cyclic_word}
 use Rattle.wh_words.specs.Tuples.{TupleData, Tuple, IsTuple, tuple_length, own_room, with_word, in_rooms_of}
 use Rattle.wh_words.specs.Moves.{Move}
 use Rattle.wh_words.specs.Action.{substitute, act}
 use Rattle.wh_words.specs.Images.{swap_letter, invert_letter}
-use Rattle.wh_words.specs.Moves.Kind.{swap, invert, cut}
+use Rattle.wh_words.specs.Moves.Kind.{swap, invert}
 use Rattle.wh_words.proofs.Mapped.{swap_image, invert_image}
 use Rattle.wh_words.proofs.CutImages.{least_length}
 use Rattle.wh_words.proofs.ImageLetters.{image_sum}
@@ -33,15 +33,28 @@ pub image_fits : (t : TupleData) (m : Move) (into start : Tuple) (i : ℕ) (w : 
     tuple_length (act t m) ≤ start.room → into ≡ in_rooms_of start (acted t m i) →
     tuple_length into.plain + length (cyclic_word (substitute m.kind w)) ≤ into.room
 image_fits t m into start i w h e fits is =
-    omega (arith, ap (λ (u : Tuple). tuple_length u.plain) is, ap (λ (u : Tuple). u.room) is, fits,
-      ap (sum_by length) (acted_more t m i w h e), sum_by_push length (acted t m i).words (cyclic_word (substitute m.kind w)),
-      map_front (λ v. cyclic_word (substitute m.kind v)) t.words (i + 1))
+    omega (
+      arith,
+      ap (λ (u : Tuple). tuple_length u.plain) is,
+      ap (λ (u : Tuple). u.room) is,
+      fits,
+      ap (sum_by length) (acted_more t m i w h e),
+      sum_by_push length (acted t m i).words (cyclic_word (substitute m.kind w)),
+      map_front (λ v. cyclic_word (substitute m.kind v)) t.words (i + 1),
+    )
 
 pub image_place : (t : TupleData) (m : Move) (into start : Tuple) (i : ℕ) → i < length t.words →
     length t.words ≤ start.word_room → into ≡ in_rooms_of start (acted t m i) → length into.plain.words < into.word_room
 image_place t m into start i h fits is =
-    omega (arith, ap (λ (u : Tuple). length u.plain.words) is, ap (λ (u : Tuple). u.word_room) is, fits, h,
-      length-map (take i t.words) (λ v. cyclic_word (substitute m.kind v)), length-take i t.words)
+    omega (
+      arith,
+      ap (λ (u : Tuple). length u.plain.words) is,
+      ap (λ (u : Tuple). u.word_room) is,
+      fits,
+      h,
+      length-map (take i t.words) (λ v. cyclic_word (substitute m.kind v)),
+      length-take i t.words,
+    )
 
 pub image_more : (t : TupleData) (m : Move) (into new start : Tuple) (i : ℕ) (w : List ℕ) → i < length t.words → w ≡ get_or t.words i [] →
     into ≡ in_rooms_of start (acted t m i) → new ≡ with_word into (cyclic_word (substitute m.kind w)) → new ≡ in_rooms_of start (acted t m (i + 1))

@@ -1,12 +1,12 @@
 -- The image of a letter under a cut is reduced as it is written.
-use Rattle.std.proofs.Common.{◌≡◌, ◌≢◌, ℕ, ◌+◌, ◌/◌, ◌==◌, Bool, true, false, cond, List, [], ◌∷◌, ◌++◌, refl, sym, ap, ◌∙◌, arith, Result, Ok, Err, IfOk}
+use Rattle.std.proofs.Common.{◌≡◌, ◌≢◌, ℕ, ◌/◌, Bool, true, false, cond, List, [], ◌∷◌, ◌++◌, sym, ap, ◌∙◌, Result, Ok, Err, IfOk}
 use Rattle.std.proofs.lemmas.Bool.{ne_eqb}
 use Rattle.wh_words.specs.Letters.{inverse_letter}
 use Rattle.wh_words.specs.LetterSets.{in_set}
 use Rattle.wh_words.specs.Words.{free_reduction, IsReduced}
 use Rattle.wh_words.specs.Images.{image}
 use Rattle.wh_words.specs.Moves.Kind.{cut}
-use Rattle.wh_words.proofs.FreeReduction.{free_reduction-same, inverse-inverse, inverse_generator, turned}
+use Rattle.wh_words.proofs.FreeReduction.{free_reduction-same, inverse-inverse, inverse_generator}
 
 abbrev around : Bool → Bool → ℕ → ℕ → List ℕ
 around before behind a x = cond before (inverse_letter a ∷ []) [] ++ x ∷ cond behind (a ∷ []) []

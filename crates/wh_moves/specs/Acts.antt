@@ -1,6 +1,8 @@
 -- When a move can be made, and why it can't.
-use Rattle.std.specs.Prelude.{◌≡◌, ◌<◌, ◌≤◌}
+use Rattle.std.specs.Prelude.{◌≡◌, ℕ, ◌<◌, ◌≤◌, List, length, take}
 use Rattle.wh_words.specs.Tuples.{TupleData, tuple_length}
+use Rattle.wh_words.specs.Moves.{Move}
+use Rattle.wh_words.specs.Action.{act_all}
 use Rattle.wh_moves.specs.declared.action.ActError.{ActError}
 use Rattle.wh_moves.specs.declared.action.ActError.TheVariants.{TooLong, OutOfMemory}
 
@@ -12,3 +14,19 @@ Fits t = tuple_length t ≤ 4096
 abbrev pub IsActFault : TupleData → ActError → Type 0
 IsActFault t (TooLong place n) = (place ≡ 1) × (n ≡ tuple_length t) × ¬ (Fits t)
 IsActFault t OutOfMemory = Unit {0}
+
+-- Every tuple on the way of a list of moves fits, the first and the last with them.
+abbrev pub FitsOnTheWay : TupleData → List Move → Type 0
+FitsOnTheWay t ms = (k : ℕ) → k ≤ length ms → Fits (act_all t (take k ms))
+
+-- The tuple after move number place, counted from 1, is the first on the way that doesn't fit, and it has n letters.
+pub record IsFirstTooLong (t : TupleData) (ms : List Move) (place n : ℕ) : Type 0 where
+  pub within : place ≤ length ms
+  pub count : n ≡ tuple_length (act_all t (take place ms))
+  pub too_long : ¬ (Fits (act_all t (take place ms)))
+  pub first : (k : ℕ) → k < place → Fits (act_all t (take k ms))
+
+-- What an error tells of a list of moves: where the way is first too long. Want of memory tells nothing.
+abbrev pub IsActAllFault : TupleData → List Move → ActError → Type 0
+IsActAllFault t ms (TooLong place n) = IsFirstTooLong t ms place n
+IsActAllFault t ms OutOfMemory = Unit {0}

@@ -1,5 +1,6 @@
 pub mod Kinds
 pub mod Acts
+pub mod Laws
 -- The definitions of the theory, for the crates above.
 pub use Rattle.wh_words.specs.Moves
 pub use Rattle.wh_words.specs.Images

@@ -13,7 +13,7 @@ use thiserror::Error;
 use wh_words::{Letter, OutOfMemory, Tuple, cut_image_length};
 
 /// The greatest number of letters of a tuple.
-const MOST_LETTERS: u32 = 4096;
+pub(crate) const MOST_LETTERS: u32 = 4096;
 
 /// Why a move can't be made.
 #[derive(Debug, Drop, PartialEq, Eq, Error)]

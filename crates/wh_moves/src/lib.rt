@@ -3,10 +3,13 @@
 
 mod action;
 mod image_words;
+pub mod laws;
 mod letter_images;
+mod list_action;
 mod moves;
 
 pub use action::{ActError, act, act_into, acted_length};
 pub use image_words::Images;
 pub use letter_images::images;
+pub use list_action::act_all;
 pub use moves::{Kind, Move};

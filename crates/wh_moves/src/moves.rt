@@ -1,6 +1,8 @@
 //! Moves: Whitehead automorphisms of both kinds.
 ghost use Rattle.std.specs.Prelude.{◌≡◌, ◌<◌, ◌≤◌, ◌↔◌, ◌⊎◌, IsTrue, IsNone, IfSome};
-ghost use Rattle.wh_words.specs.Moves.{IsMove, IsCut, IsIdentityCut, cut_move};
+ghost use Rattle.std.specs.Int.{bit_at};
+ghost use Rattle.wh_words.specs.Letters.{inverse_letter};
+ghost use Rattle.wh_words.specs.Moves.{IsMove, IsCut, IsIdentityCut, cut_move, turned_set, inverse_move};
 ghost use Rattle.wh_words.specs.Moves.Kind.{swap, invert};
 ghost use Rattle.wh_moves.specs.Kinds.{kind_of};
 
@@ -43,6 +45,15 @@ impl Model for Move {
     ghost inverse_ok = { λ a h. ap (λ k. record { rank = a.rank; kind = k }) (kind_back_of a.kind) };
 
     ghost invariant = { λ m. IsMove (record { rank = m.rank; kind = kind_of m.kind }) };
+}
+
+/// A set that holds a letter and not its inverse, with the inverse in the letter's place.
+fn turned(set: LetterSet, letter: Letter) -> LetterSet
+    requires holds { bit_at set letter ≡ 1 }
+    requires omits { bit_at set (inverse_letter letter) ≡ 0 }
+    ensures { result ≡ turned_set letter set }
+{
+    set.with(letter.inverse()).without(letter)
 }
 
 impl Move {
@@ -111,6 +122,24 @@ impl Move {
         ensures valid { IsMove self.now }
     {
         self.rank
+    }
+
+    /// The inverse of the move. Swaps and inversions are their own inverses; the inverse of a cut (A, a) is the cut
+    /// (A - a + a', a') (Lyndon and Schupp, I.4).
+    pub fn inverse(&self) -> Move
+        ensures { result ≡ inverse_move self.now }
+    {
+        let kind = match self.kind {
+            Kind::Cut { mult, set } => Kind::Cut {
+                mult: mult.inverse(),
+                set: turned(set, mult),
+            },
+            own => own,
+        };
+        Move {
+            rank: self.rank,
+            kind,
+        }
     }
 
     /// Whether the move is an identity cut, whose set has the multiplier alone.

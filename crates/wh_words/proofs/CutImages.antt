@@ -1,25 +1,26 @@
 -- What the program writes for a word under a cut: the pass round it, turned to its least rotation.
-use Rattle.std.proofs.Common.{◌≡◌, ◌≢◌, ℕ, zero, suc, ◌+◌, ◌-◌, ◌*◌, ◌/◌, ◌%◌, ◌<◌, ◌≤◌, ◌==◌, ltb, Bool, true, false, not, ◌&&◌, cond, List, [], ◌∷◌, ◌++◌, length, get_or, take, drop, refl, sym, ap, ◌∙◌, subst, inl, inr, ◌⊎◌, arith, append_assoc, append-nil, length-append}
+use Rattle.std.proofs.Common.{◌≡◌, ◌≢◌, ℕ, ◌+◌, ◌-◌, ◌*◌, ◌/◌, ◌<◌, ◌≤◌, ◌==◌, ltb, Bool, true, false, not, ◌&&◌, cond, List, [], ◌∷◌, ◌++◌, length, get_or, take, drop, refl, sym, ap, ◌∙◌, subst, inl, inr, arith, append_assoc, append-nil, length-append}
 use Rattle.std.proofs.lemmas.Bool.{cases_Bool, cases_eq, true≢false, false≢true, and_from, lt-ltb, eq-eqb, ne_eqb, eqb-true}
-use Rattle.std.proofs.lemmas.List.{take_more, take-append-drop}
+use Rattle.std.proofs.lemmas.List.{take_more, take-append-drop, take-append-le, take-take}
+use Rattle.std.proofs.Math.Seq.{take-append-add}
 use Rattle.std.specs.List.{flat_map}
 use Rattle.std.specs.Int.{bit_at}
 use Rattle.wh_words.specs.Letters.{inverse_letter}
-use Rattle.wh_words.specs.Words.{free_reduction, IsReduced, StartsOtherThan, DeletesTo}
-use Rattle.wh_words.specs.CyclicWords.{cyclic_reduction, cyclic_word, least_rotation, cyclic_core, ends_cancel, rotate, IsCyclicallyReduced, IsLeastRotation}
+use Rattle.wh_words.specs.Words.{free_reduction, IsReduced, DeletesTo}
+use Rattle.wh_words.specs.CyclicWords.{cyclic_reduction, cyclic_word, least_rotation, cyclic_core, ends_cancel, IsCyclicallyReduced, IsLeastRotation}
 use Rattle.wh_words.specs.Words.DeletesTo.{none as stays, pair}
 use Rattle.wh_words.specs.Passes.{is_other, kept, junction, junction_of, pass, last_or, round_pass}
 use Rattle.wh_words.specs.Moves.{IsCut}
 use Rattle.wh_words.specs.LetterSets.{in_set}
 use Rattle.wh_words.specs.Images.{image}
 use Rattle.wh_words.specs.Action.{substitute}
-use Rattle.wh_words.specs.Moves.Kind.{swap, invert, cut}
-use Rattle.wh_words.proofs.FreeReduction.{inverse-inverse, inverse-other, inverse_generator, free_reduction-same, free_reduction-reduced, free_reduction-length, remains_there}
+use Rattle.wh_words.specs.Moves.Kind.{cut}
+use Rattle.wh_words.proofs.FreeReduction.{inverse-inverse, inverse-other, inverse_generator, free_reduction-same, free_reduction-reduced, remains_there}
 use Rattle.wh_words.proofs.Turning.{Ends, ends, ends_cancel-two, cyclic_core-other, cyclic_core-two, cyclic_core-length}
 use Rattle.wh_words.proofs.Turning.Ends.{none, one, two}
 use Rattle.wh_words.proofs.Rotations.{least_rotation-is}
 use Rattle.wh_words.proofs.StoredWords.{rotate-length}
-use Rattle.wh_words.proofs.OnePass.{after_letter, before_letter, spread, pass-round}
+use Rattle.wh_words.proofs.OnePass.{after_letter, spread, pass-round}
 use Rattle.wh_words.proofs.PassRound.{pass-append, round-reduced}
 
 -- ---- a word that is its own cyclic word is cyclically reduced
@@ -158,27 +159,42 @@ pub pass_fits : (a : ℕ) (has : ℕ → Bool) (p : ℕ) (w : List ℕ) (i : ℕ
 pass_fits a has p w i =
     omega (arith, ap (λ v. length (pass a has p v)) (sym (take-append-drop i w)), ap length (pass-append a has p (take i w) (drop i w)), length-append (pass a has p (take i w)) (pass a has (last_or a has p (take i w)) (drop i w)))
 
-pub step_fits : (a : ℕ) (has : ℕ → Bool) (p : ℕ) (w : List ℕ) (i x before : ℕ) → i < length w → x ≡ get_or w i x → before ≡ last_or a has p (take i w) →
-    length (pass a has p (take i w)) + (length (junction a has before x) + length (kept a has x)) ≤ length (pass a has p w)
-step_fits a has p w i x before h e f =
+pub step_fits : (a : ℕ) (has : ℕ → Bool) (p : ℕ) (w : List ℕ) (i x : ℕ) (here : Bool) → i < length w → x ≡ get_or w i x → here ≡ has (last_or a has p (take i w)) →
+    length (pass a has p (take i w)) + (length (junction_of a has here (has (inverse_letter x))) + length (kept a has x)) ≤ length (pass a has p w)
+step_fits a has p w i x here h e f =
     omega (
       arith,
       pass_fits a has p w (i + 1),
       ap length (pass_more a has p w i x h e),
       length-append (pass a has p (take i w)) (junction a has (last_or a has p (take i w)) x ++ kept a has x),
       length-append (junction a has (last_or a has p (take i w)) x) (kept a has x),
-      ap (λ q. length (junction a has q x)) f,
+      ap (λ b. length (junction_of a has b (has (inverse_letter x)))) f,
     )
 
-pub pass_step : (a : ℕ) (has : ℕ → Bool) (p : ℕ) (w : List ℕ) (i x before : ℕ) (start out mid new : List ℕ) → i < length w → x ≡ get_or w i x → before ≡ last_or a has p (take i w) →
-    out ≡ start ++ pass a has p (take i w) → mid ≡ out ++ junction a has before x → new ≡ mid ++ kept a has x → new ≡ start ++ pass a has p (take (i + 1) w)
-pass_step a has p w i x before start out mid new h e f o m n =
+pub pass_step : (a : ℕ) (has : ℕ → Bool) (p : ℕ) (w : List ℕ) (i x : ℕ) (here : Bool) (out mid new : List ℕ) → i < length w → x ≡ get_or w i x → here ≡ has (last_or a has p (take i w)) →
+    out ≡ pass a has p (take i w) → mid ≡ out ++ junction_of a has here (has (inverse_letter x)) → new ≡ mid ++ kept a has x → new ≡ pass a has p (take (i + 1) w)
+pass_step a has p w i x here out mid new h e f o m n =
     n ∙ ap (λ v. v ++ kept a has x) m
-    ∙ append_assoc out (junction a has before x) (kept a has x)
-    ∙ ap (λ v. v ++ (junction a has before x ++ kept a has x)) o
-    ∙ append_assoc start (pass a has p (take i w)) (junction a has before x ++ kept a has x)
-    ∙ ap (λ q. start ++ (pass a has p (take i w) ++ (junction a has q x ++ kept a has x))) f
-    ∙ ap (λ v. start ++ v) (sym (pass_more a has p w i x h e))
+    ∙ append_assoc out (junction_of a has here (has (inverse_letter x))) (kept a has x)
+    ∙ ap (λ v. v ++ (junction_of a has here (has (inverse_letter x)) ++ kept a has x)) o
+    ∙ ap (λ b. pass a has p (take i w) ++ (junction_of a has b (has (inverse_letter x)) ++ kept a has x)) f
+    ∙ sym (pass_more a has p w i x h e)
+
+pub here_more : (a : ℕ) (has : ℕ → Bool) (p : ℕ) (w : List ℕ) (i x : ℕ) → i < length w → x ≡ get_or w i x → has x ≡ has (last_or a has p (take (i + 1) w))
+here_more a has p w i x h e = ap has (last_more a has p w i x h e)
+
+-- What is written behind a row of letters, in a vector that was grown and is cut again: whatever stands behind is lost.
+pub written_behind : (out grown slice written behind rest row new : List ℕ) (start at n : ℕ) → start ≡ length out → take (length out) grown ≡ out → slice ≡ grown →
+    start + at ≤ n → at ≤ length written → take at written ≡ row → new ≡ take (start + at) (take n ((take start slice ++ (written ++ behind)) ++ rest)) → new ≡ out ++ row
+written_behind out grown slice written behind rest row new start at n s g w fits inside r e =
+    let front : take start slice ≡ out = ap (take start) w ∙ ap (λ k. take k grown) s ∙ g in
+    e ∙ take-take (start + at) n ((take start slice ++ (written ++ behind)) ++ rest) fits
+    ∙ ap (λ v. take (start + at) ((v ++ (written ++ behind)) ++ rest)) front
+    ∙ ap (take (start + at)) (append_assoc out (written ++ behind) rest)
+    ∙ ap (λ k. take (k + at) (out ++ ((written ++ behind) ++ rest))) s
+    ∙ take-append-add out ((written ++ behind) ++ rest) at
+    ∙ ap (λ v. out ++ take at v) (append_assoc written behind rest)
+    ∙ ap (λ v. out ++ v) (take-append-le at written (behind ++ rest) inside ∙ r)
 
 -- ---- lengths
 pub cut_image_length : (a set : ℕ) (w : List ℕ) → bit_at set a ≡ 1 → bit_at set (inverse_letter a) ≡ 0 → cyclic_word w ≡ w →
@@ -186,15 +202,15 @@ pub cut_image_length : (a set : ℕ) (w : List ℕ) → bit_at set a ≡ 1 → b
 cut_image_length a set w h o e =
     sym (ap length (ap cyclic_word (substitute_spread a set h o w) ∙ cut_word a (in_set set) (eq-eqb (bit_at set a) 1 h) (ap (λ b. b == 1) o) w (own_reduced w e)) ∙ least_length (round_pass a (in_set set) w))
 
-pub step_length : (a : ℕ) (has : ℕ → Bool) (p : ℕ) (w : List ℕ) (i x before : ℕ) → i < length w → x ≡ get_or w i x → before ≡ last_or a has p (take i w) →
-    length (pass a has p (take i w)) + (length (junction a has before x) + length (kept a has x)) ≡ length (pass a has p (take (i + 1) w))
-step_length a has p w i x before h e f =
+pub step_length : (a : ℕ) (has : ℕ → Bool) (p : ℕ) (w : List ℕ) (i x : ℕ) (here : Bool) → i < length w → x ≡ get_or w i x → here ≡ has (last_or a has p (take i w)) →
+    length (pass a has p (take i w)) + (length (junction_of a has here (has (inverse_letter x))) + length (kept a has x)) ≡ length (pass a has p (take (i + 1) w))
+step_length a has p w i x here h e f =
     omega (
       arith,
       ap length (pass_more a has p w i x h e),
       length-append (pass a has p (take i w)) (junction a has (last_or a has p (take i w)) x ++ kept a has x),
       length-append (junction a has (last_or a has p (take i w)) x) (kept a has x),
-      ap (λ q. length (junction a has q x)) f,
+      ap (λ b. length (junction_of a has b (has (inverse_letter x)))) f,
     )
 
 kept_few : (a : ℕ) (has : ℕ → Bool) (b : Bool) (x : ℕ) → length (cond b (x ∷ []) []) ≤ 1

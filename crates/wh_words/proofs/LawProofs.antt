@@ -67,7 +67,7 @@ turned = cyclic_word-turn
 inverse_word-cons : (x : ℕ) (g : List ℕ) → inverse_word (x ∷ g) ≡ inverse_word g ++ inverse_letter x ∷ []
 inverse_word-cons x g = reverse-append (inverse_letter x ∷ []) (map inverse_letter g)
 
-cancels : (g w : List ℕ) → free_reduction (g ++ (inverse_word g ++ w)) ≡ free_reduction w
+pub cancels : (g w : List ℕ) → free_reduction (g ++ (inverse_word g ++ w)) ≡ free_reduction w
 cancels [] w = refl
 cancels (x ∷ g) w =
     ap (λ v. free_reduction (x ∷ (g ++ (v ++ w)))) (inverse_word-cons x g)

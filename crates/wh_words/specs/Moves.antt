@@ -1,5 +1,5 @@
 -- Moves, that is Whitehead automorphisms of both kinds, after Lyndon and Schupp, I.4.
-use Rattle.std.specs.Prelude.{◌≡◌, ℕ, ◌*◌, ◌^◌, ◌<◌, ◌≤◌}
+use Rattle.std.specs.Prelude.{◌≡◌, ℕ, ◌+◌, ◌-◌, ◌*◌, ◌^◌, ◌<◌, ◌≤◌}
 use Rattle.std.specs.Int.{bit_at}
 use Rattle.std.specs.Ordering.{nat_cmp, ordering_then}
 use Rattle.std.specs.declared.cmp.Ordering.{Ordering}
@@ -44,6 +44,20 @@ abbrev pub IsIdentityCut : Kind → Type 0
 IsIdentityCut (swap k) = ⊥
 IsIdentityCut (invert k) = ⊥
 IsIdentityCut (cut a set) = set ≡ 2 ^ a
+
+-- A set that holds a and omits a', with a' in the place of a.
+abbrev pub turned_set : ℕ → ℕ → ℕ
+turned_set a set = set + 2 ^ inverse_letter a - 2 ^ a
+
+-- Swaps and inversions are their own inverses; the inverse of a cut (A, a) is the cut (A - a + a', a').
+abbrev pub inverse_kind : Kind → Kind
+inverse_kind (swap k) = swap k
+inverse_kind (invert k) = invert k
+inverse_kind (cut a set) = cut (inverse_letter a) (turned_set a set)
+
+-- The inverse of a move.
+abbrev pub inverse_move : Move → Move
+inverse_move m = record { rank = m.rank; kind = inverse_kind m.kind }
 
 -- Within a rank: swaps by number, then inversions by number, then cuts by multiplier and then by set.
 abbrev pub kind_cmp : Kind → Kind → Ordering

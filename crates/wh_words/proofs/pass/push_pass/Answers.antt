@@ -1,45 +1,51 @@
-use Rattle.std.proofs.Common.{◌≡◌, ℕ, ◌+◌, ◌-◌, ◌<◌, ◌≤◌, Bool, List, ◌++◌, length, get_or, take, sym, ap, ◌∙◌, arith, rules, length-append}
+use Rattle.std.proofs.Common.{◌≡◌, ℕ, ◌-◌, ◌≤◌, List, length, take, drop, ap, arith, length-take, length-drop}
 use Rattle.wh_words.specs.LetterSets.{in_set}
-use Rattle.wh_words.specs.Passes.{pass, last_or, junction, kept}
-use Rattle.wh_words.proofs.CutImages.{step_fits, pass_step, last_more}
+use Rattle.wh_words.specs.Passes.{round_pass}
+use Rattle.wh_words.proofs.CutImages.{round_twice, written_behind}
 use Rattle.wh_words.proofs.pass.push_pass.Goals as goal
 
-pub push_junction-requires : goal.push_junction-requires
-push_junction-requires c =
-    let h : ℕ → Bool = in_set c.args.set in
-    let p : ℕ = get_or c.args.word.now (length c.args.word.now - 1) 0 in
+pub write_pass-written-requires : goal.write_pass-written-requires
+write_pass-written-requires c =
+    let row : List ℕ = c.as_mut_slice.result.now in
     omega (
       arith,
       c.requires,
-      c.loop-x.invariant.capacity,
-      ap length c.loop-x.invariant.items,
-      length-append c.args.out.now.items (pass c.args.mult h p (take c.loop-x.x-index c.args.word.now)),
-      step_fits c.args.mult h p c.args.word.now c.loop-x.x-index c.x-item.result c.loop-x.before (omega arith) c.x-item.is c.loop-x.invariant.before,
+      c.len-start.ensures.value,
+      c.saturating_mul.ensures,
+      c.capacity.ensures.value,
+      c.min-most.ensures,
+      c.grow_to.ensures.len,
+      ap length c.as_mut_slice.ensures.value,
+      length-take (length row - c.len-start.result) (drop c.len-start.result row),
+      length-drop c.len-start.result row,
+      round_twice c.args.mult (in_set c.args.set) c.args.word.now,
     )
 
-pub push_kept-requires : goal.push_kept-requires
-push_kept-requires c =
-    let h : ℕ → Bool = in_set c.args.set in
-    let p : ℕ = get_or c.args.word.now (length c.args.word.now - 1) 0 in
+pub returns-clause-items : goal.returns-clause-items
+returns-clause-items c =
+    let row : List ℕ = c.as_mut_slice.result.now in
+    let room : length (take (length row - c.len-start.result) (drop c.len-start.result row)) ≡ c.min-most.result =
+    omega (
+      arith,
+      c.len-start.ensures.value,
+      c.grow_to.ensures.len,
+      ap length c.as_mut_slice.ensures.value,
+      length-take (length row - c.len-start.result) (drop c.len-start.result row),
+      length-drop c.len-start.result row,
+    ) in
+    let fits : c.write_pass-written.result ≤ c.min-most.result =
     omega (
       arith,
       c.requires,
-      c.loop-x.invariant.capacity,
-      c.push_junction.ensures.capacity,
-      ap length c.push_junction.ensures.items,
-      length-append c.loop-x.out.items (junction c.args.mult h c.loop-x.before c.x-item.result),
-      ap length c.loop-x.invariant.items,
-      length-append c.args.out.now.items (pass c.args.mult h p (take c.loop-x.x-index c.args.word.now)),
-      step_fits c.args.mult h p c.args.word.now c.loop-x.x-index c.x-item.result c.loop-x.before (omega arith) c.x-item.is c.loop-x.invariant.before,
-    )
-
-pub loop-x-preserved : goal.loop-x-preserved
-loop-x-preserved c =
-    let h : ℕ → Bool = in_set c.args.set in
-    let p : ℕ = get_or c.args.word.now (length c.args.word.now - 1) 0 in
-    record {
-      items = pass_step c.args.mult h p c.args.word.now c.loop-x.x-index c.x-item.result c.loop-x.before c.args.out.now.items c.loop-x.out.items c.push_junction.new.out.items c.push_kept.new.out.items
-          (omega arith) c.x-item.is c.loop-x.invariant.before c.loop-x.invariant.items c.push_junction.ensures.items c.push_kept.ensures.items;
-      before = last_more c.args.mult h p c.args.word.now c.loop-x.x-index c.x-item.result (omega arith) c.x-item.is;
-      capacity = omega (arith, c.loop-x.invariant.capacity, c.push_junction.ensures.capacity, c.push_kept.ensures.capacity);
-    }
+      c.len-start.ensures.value,
+      c.saturating_mul.ensures,
+      c.capacity.ensures.value,
+      c.min-most.ensures,
+      c.write_pass-written.ensures.place,
+      round_twice c.args.mult (in_set c.args.set) c.args.word.now,
+    ) in
+    written_behind c.args.out.now.items c.grow_to.new.out.items row c.write_pass-written.new.out _ _
+    (round_pass c.args.mult (in_set c.args.set) c.args.word.now) c.truncate.new.self.items c.len-start.result c.write_pass-written.result (length c.grow_to.new.out.items)
+    c.len-start.ensures.value c.grow_to.ensures.front c.as_mut_slice.ensures.value
+    (omega (arith, fits, c.grow_to.ensures.len)) (omega (arith, fits, room, c.write_pass-written.ensures.same_length))
+    c.write_pass-written.ensures.written c.truncate.ensures.items
