@@ -12,7 +12,7 @@ PROGRAM = ROOT.parent / "crates" / "wh_main" / "out" / "wh_main"
 
 def measure(path):
     """Seconds, peak memory in MB, and the number of moves of the trace; the best time of three runs."""
-    best = None
+    runs = []
     for _ in range(3):
         begun = time.perf_counter()
         with open(path) as problem:
@@ -21,8 +21,8 @@ def measure(path):
             _, _, usage = os.wait4(child.pid, 0)
         took = time.perf_counter() - begun
         moves = next((len(line.split()) - 1 for line in answer.splitlines() if line.startswith("trace")), 0)
-        best = min(best or (took, 0, 0), (took, usage.ru_maxrss / 1024, moves))
-    return best
+        runs.append((took, usage.ru_maxrss / 1024, moves))
+    return min(runs)
 
 
 def main():

@@ -4,6 +4,8 @@
 #[cfg(test)]
 mod command_line;
 #[cfg(test)]
+mod graphs;
+#[cfg(test)]
 mod moves;
 #[cfg(test)]
 mod streams;

@@ -3,7 +3,7 @@ use crate::support::{letter, letters, tuple};
 use std::alloc::Global;
 use std::process::Abort;
 use std::test::Fail;
-use wh_moves::{Images, Move, act, act_into, acted_length, images};
+use wh_moves::{Images, Move, act, act_all, act_into, acted_length, images};
 use wh_words::{LetterSet, Rank, Tuple};
 
 #[test]
@@ -85,5 +85,64 @@ fn a_tuple_is_made_in_the_room_of_another(rt: HostRuntime) -> Result<(), Fail> {
     act_into(&tuple, &cut, &mut into);
     assert!(rt; into.same(&self::tuple(alloc, "rank 2\ntuple b\n")?));
     assert_eq!(rt; into.room(), 2);
+    Ok(())
+}
+
+/// Asserts what a cut makes of words that are empty, one letter or powers of its multiplier.
+fn cut_gives(rt: &impl Abort, alloc: Global, mult: u8, set: u64, acted: &str) -> Result<(), Fail> {
+    let tuple = tuple(alloc, "rank 3\ntuple 1 a A aaa b aB aab bc\n")?;
+    let cut = Move::cut(tuple.rank(), letter(mult)?, LetterSet::of_bits(set)).ok_or("cut")?;
+    assert_eq!(rt; cut.rank(), tuple.rank());
+    let made = act(alloc, &tuple, &cut)?;
+    let expected = self::tuple(alloc, acted)?;
+    assert!(rt; made.same(&expected));
+    let inverse = cut.inverse();
+    assert_eq!(rt; inverse.rank(), made.rank());
+    let back = act(alloc, &made, &inverse)?;
+    assert!(rt; back.same(&tuple));
+    Ok(())
+}
+
+#[test]
+fn cuts_act_on_degenerate_words(rt: HostRuntime) -> Result<(), Fail> {
+    let alloc = rt.alloc();
+    // The identity cut, and conjugation.
+    cut_gives(&rt, alloc, b'a', 1, "rank 3\ntuple 1 a A aaa b aB aab bc\n")?;
+    cut_gives(
+        &rt,
+        alloc,
+        b'a',
+        61,
+        "rank 3\ntuple 1 a A aaa b aB aab bc\n",
+    )?;
+    // b and c are multiplied by a; then b is conjugated by itself; then B is multiplied by A.
+    cut_gives(
+        &rt,
+        alloc,
+        b'a',
+        21,
+        "rank 3\ntuple 1 a A aaa ab B aaab abac\n",
+    )?;
+    cut_gives(&rt, alloc, b'b', 7, "rank 3\ntuple 1 a A aaa b aB aab bc\n")?;
+    cut_gives(
+        &rt,
+        alloc,
+        b'A',
+        10,
+        "rank 3\ntuple 1 a A aaa ab B aaab abc\n",
+    )
+}
+
+#[test]
+fn lists_of_moves_act_one_after_the_other(rt: HostRuntime) -> Result<(), Fail> {
+    let alloc = rt.alloc();
+    let tuple = tuple(alloc, "rank 2\ntuple ab\n")?;
+    let swap = Move::swap(tuple.rank(), 1).ok_or("swap")?;
+    let invert = Move::invert(tuple.rank(), 2).ok_or("invert")?;
+    assert_eq!(rt; swap.rank(), tuple.rank());
+    assert_eq!(rt; invert.rank(), tuple.rank());
+    let acted = act_all(alloc, &tuple, &[swap, invert])?;
+    let expected = self::tuple(alloc, "rank 2\ntuple aB\n")?;
+    assert!(rt; acted.same(&expected));
     Ok(())
 }
