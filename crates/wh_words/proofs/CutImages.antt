@@ -131,7 +131,7 @@ substitute_spread a set h o [] = refl
 substitute_spread a set h o (x ∷ w) =
     ap (λ v. v ++ substitute (cut a set) w) (image_spread a set x h o) ∙ ap (λ v. spread a (in_set set) x ++ v) (substitute_spread a set h o w)
 
--- D3's word, for a cut
+-- The cyclic word of the image under a cut is what the pass makes, turned to its first rotation.
 pub cut_image : (n a set : ℕ) (w : List ℕ) → IsCut n a set → cyclic_word w ≡ w → cyclic_word (substitute (cut a set) w) ≡ least_rotation (round_pass a (in_set set) w)
 cut_image n a set w c e =
     ap cyclic_word (substitute_spread a set c.holds c.omits w)
