@@ -1,6 +1,6 @@
 -- The trace of a tuple, step by step.
 use Rattle.std.proofs.Common.{◌≡◌, ◌*◌, ◌<◌, ◌≤◌, List, [], ◌∷◌, ◌++◌, length, sym, ap, ◌∙◌, subst, arith, append_assoc, append-nil}
-use Rattle.wh_words.specs.Tuples.{TupleData, Tuple, IsTuple, tuple_length, in_rooms_of, own_room}
+use Rattle.wh_words.specs.Tuples.{TupleData, Tuple, IsTuple, tuple_length, in_rooms_of}
 use Rattle.wh_words.specs.Moves.{Move}
 use Rattle.wh_words.specs.Action.{act, substitute}
 use Rattle.wh_words.specs.CyclicWords.{cyclic_word}
@@ -40,20 +40,6 @@ pub record AreRoomy (t : TupleData) (now spare : Tuple) : Type 0 where
   pub word_room : now.word_room ≡ length t.words
   pub spare_room : spare.room ≡ tuple_length t
   pub spare_word_room : spare.word_room ≡ length t.words
-
-pub roomy_start : (t : TupleData) (now spare : Tuple) → now ≡ own_room t → spare ≡ own_room t → AreRoomy t now spare
-roomy_start t now spare e f = record {
-  rank = ap (λ (u : Tuple). u.plain.rank) e;
-  count = ap (λ (u : Tuple). length u.plain.words) e;
-  short = omega (arith, ap (λ (u : Tuple). tuple_length u.plain) e);
-  room = ap (λ (u : Tuple). u.room) e;
-  word_room = ap (λ (u : Tuple). u.word_room) e;
-  spare_room = ap (λ (u : Tuple). u.room) f;
-  spare_word_room = ap (λ (u : Tuple). u.word_room) f;
-}
-
-pub step_rank : (t : TupleData) (m : Move) → IsCapacityStep t m → t.rank ≡ m.rank
-step_rank t m s = sym (ap (λ (k : Move). k.rank) s.is)
 
 pub step_shortens : (t : TupleData) (m : Move) → IsTuple t → IsCapacityStep t m → tuple_length (act t m) < tuple_length t
 step_shortens t m is s =
