@@ -1,13 +1,13 @@
 -- A tuple made of reduced words.
-use Rattle.std.proofs.Common.{◌≡◌, ◌≢◌, ℕ, zero, suc, ◌+◌, ◌-◌, ◌*◌, ◌<◌, ◌≤◌, true, false, cond, List, [], ◌∷◌, ◌++◌, length, get_or, take, drop, map, refl, sym, ap, ◌∙◌, subst, inl, inr, ◌⊎◌, arith, length-append, length-take}
+use Rattle.std.proofs.Common.{◌≡◌, ℕ, zero, suc, ◌+◌, ◌<◌, ◌≤◌, true, cond, List, [], ◌∷◌, ◌++◌, length, get_or, take, map, refl, sym, ap, ◌∙◌, subst, inl, inr, arith, length-append, length-take}
 use Rattle.std.proofs.lemmas.Bool.{cases_Bool, false≢true}
-use Rattle.std.proofs.lemmas.List.{take_more, take_all, map_more, length-map}
+use Rattle.std.proofs.lemmas.List.{take_all, map_more, length-map}
 use Rattle.std.proofs.lemmas.List.Sums.{sum_by_push, sum_by-cons}
-use Rattle.std.specs.List.{All, sum_by}
-use Rattle.wh_words.specs.Words.{free_reduction, IsReduced, IsOfRank}
+use Rattle.std.specs.List.{sum_by}
+use Rattle.wh_words.specs.Words.{IsReduced}
 use Rattle.wh_words.specs.CyclicWords.{cyclic_word, strip_times, cyclic_core, inner, ends_cancel, IsCyclicallyReduced}
-use Rattle.wh_words.specs.Tuples.{TupleData, Tuple, tuple_length, own_room, with_word}
-use Rattle.wh_words.proofs.FreeReduction.{free_reduction-same, front-reduced}
+use Rattle.wh_words.specs.Tuples.{Tuple, tuple_length, own_room, with_word}
+use Rattle.wh_words.proofs.FreeReduction.{front-reduced}
 use Rattle.wh_words.proofs.Turning.{Ends, ends, inner-two}
 use Rattle.wh_words.proofs.Turning.Ends.{none, one, two}
 use Rattle.wh_words.proofs.Rotations.{cyclic_word-cyclic_core}

@@ -1,17 +1,15 @@
 -- Words whose letters are exchanged: a swap or an inversion of a cyclic word keeps it cyclically reduced.
-use Rattle.std.proofs.Common.{◌≡◌, ◌≢◌, ℕ, zero, suc, ◌+◌, ◌-◌, ◌*◌, ◌/◌, ◌%◌, ◌<◌, ◌≤◌, ◌==◌, Bool, true, false, cond, List, [], ◌∷◌, ◌++◌, length, get_or, take, map, refl, sym, ap, ◌∙◌, subst, inl, inr, ◌⊎◌, arith, append_assoc}
-use Rattle.std.proofs.lemmas.Bool.{cases_Bool, cases_eq, true≢false, false≢true, eq-eqb, ne_eqb, cond_both, eqb-true, eqb-false}
-use Rattle.std.proofs.lemmas.Bool.Decides.{nat_tests}
+use Rattle.std.proofs.Common.{◌≡◌, ◌≢◌, ℕ, ◌+◌, ◌-◌, ◌/◌, ◌<◌, ◌==◌, Bool, false, cond, List, [], ◌∷◌, ◌++◌, length, get_or, take, map, refl, sym, ap, ◌∙◌, inl, inr, arith, append_assoc}
+use Rattle.std.proofs.lemmas.Bool.{cases_eq, true≢false, eq-eqb, ne_eqb}
 use Rattle.std.proofs.lemmas.List.{map_more, map-append}
-use Rattle.std.specs.List.{flat_map}
 use Rattle.wh_words.specs.Letters.{inverse_letter}
 use Rattle.wh_words.specs.CyclicWords.{cyclic_word, least_rotation, ends_cancel, IsCyclicallyReduced}
 use Rattle.wh_words.specs.Words.{IsReduced}
-use Rattle.wh_words.specs.Images.{swap_letter, invert_letter, image}
+use Rattle.wh_words.specs.Images.{swap_letter, invert_letter}
 use Rattle.wh_words.specs.Action.{substitute}
-use Rattle.wh_words.specs.Moves.Kind.{swap, invert, cut}
-use Rattle.wh_words.proofs.FreeReduction.{inverse-inverse, inverse-other, inverse_generator}
-use Rattle.wh_words.proofs.Turning.{Ends, ends, ends_cancel-two, same_ends, other_ends}
+use Rattle.wh_words.specs.Moves.Kind.{swap, invert}
+use Rattle.wh_words.proofs.FreeReduction.{inverse-inverse, inverse_generator}
+use Rattle.wh_words.proofs.Turning.{Ends, ends, same_ends, other_ends}
 use Rattle.wh_words.proofs.Turning.Ends.{none, one, two}
 use Rattle.wh_words.proofs.CutImages.{own_reduced, own_cyclic_reduction}
 

@@ -1,14 +1,14 @@
 -- The laws of images and of traces.
-use Rattle.std.proofs.Common.{◌≡◌, ◌≢◌, ℕ, zero, suc, ◌+◌, ◌-◌, ◌*◌, ◌/◌, ◌<◌, ◌≤◌, ◌==◌, Bool, true, false, cond, List, [], ◌∷◌, ◌++◌, length, map, reverse, refl, sym, ap, ◌∙◌, subst, inl, inr, ◌⊎◌, arith}
-use Rattle.std.proofs.lemmas.Bool.{cases_lt, cases_eq}
+use Rattle.std.proofs.Common.{◌≡◌, ℕ, ◌/◌, ◌==◌, Bool, true, false, cond, List, [], ◌∷◌, ◌++◌, refl, sym, ap, ◌∙◌, subst, inl, inr, arith}
+use Rattle.std.proofs.lemmas.Bool.{cases_lt}
 use Rattle.wh_words.specs.Letters.{inverse_letter}
 use Rattle.wh_words.specs.LetterSets.{in_set}
-use Rattle.wh_words.specs.Tuples.{TupleData, tuple_length}
-use Rattle.wh_words.specs.Moves.{Move, Kind, IsKind, cut_move}
+use Rattle.wh_words.specs.Tuples.{TupleData}
+use Rattle.wh_words.specs.Moves.{Move, cut_move}
 use Rattle.wh_words.specs.Moves.Kind.{swap, invert, cut}
-use Rattle.wh_words.specs.Images.{image, swap_letter, invert_letter, inverse_word}
+use Rattle.wh_words.specs.Images.{inverse_word}
 use Rattle.wh_words.specs.Action.{act}
-use Rattle.wh_words.specs.Traces.{IsFlat, IsFlatAt, IsStep, IsShortestCut, IsTrace, cut_length}
+use Rattle.wh_words.specs.Traces.{IsFlat, IsStep, IsShortestCut, IsTrace}
 use Rattle.wh_words.specs.Traces.IsTrace.{done, step}
 use Rattle.wh_words.specs.Laws.{ImageOfInverse, TraceIsUnique}
 use Rattle.wh_words.proofs.FreeReduction.{inverse-inverse, inverse_generator}

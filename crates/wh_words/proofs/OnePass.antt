@@ -1,13 +1,12 @@
 -- A cut in one pass: what is left of the substitution after each junction has cancelled.
-use Rattle.std.proofs.Common.{◌≡◌, ◌≢◌, ℕ, zero, suc, ◌+◌, ◌-◌, ◌*◌, ◌/◌, ◌<◌, ◌≤◌, ◌==◌, Bool, true, false, not, ◌&&◌, ◌||◌, cond, List, [], ◌∷◌, ◌++◌, length, refl, sym, ap, ◌∙◌, subst, inl, inr, ◌⊎◌, arith, append_assoc, append-nil, length-append}
-use Rattle.std.proofs.lemmas.Bool.{cases_Bool, cases_eq}
+use Rattle.std.proofs.Common.{◌≡◌, ℕ, Bool, true, false, cond, List, [], ◌∷◌, ◌++◌, refl, sym, ap, ◌∙◌, append_assoc, append-nil}
 use Rattle.std.specs.List.{flat_map}
 use Rattle.wh_words.specs.Letters.{inverse_letter}
-use Rattle.wh_words.specs.Words.{free_reduction, IsReduced, StartsOtherThan}
+use Rattle.wh_words.specs.Words.{free_reduction}
 use Rattle.wh_words.specs.CyclicWords.{cyclic_word}
-use Rattle.wh_words.proofs.FreeReduction.{inverse-inverse, free_reduction-pair, free_reduction-append_left, free_reduction-append_right, free_reduction-free_reduction}
+use Rattle.wh_words.proofs.FreeReduction.{inverse-inverse, free_reduction-pair, free_reduction-append_left, free_reduction-append_right}
 use Rattle.wh_words.proofs.Rotations.{cyclic_word-turn, cyclic_word-free_reduction}
-use Rattle.wh_words.specs.Passes.{is_other, kept, junction, junction_of, pass, last_or}
+use Rattle.wh_words.specs.Passes.{kept, junction, junction_of, pass, last_or}
 
 module _ (a : ℕ) (has : ℕ → Bool) where
   -- what stands after a letter, and before it

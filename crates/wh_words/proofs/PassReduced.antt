@@ -1,11 +1,10 @@
 -- The pass over a reduced word is reduced.
-use Rattle.std.proofs.Common.{◌≡◌, ◌≢◌, ℕ, ◌==◌, Bool, true, false, not, ◌&&◌, cond, List, [], ◌∷◌, ◌++◌, length, refl, sym, ap, ◌∙◌, subst, inl, inr, ◌⊎◌}
-use Rattle.std.proofs.lemmas.Bool.{cases_Bool, cases_eq, eq-eqb, ne_eqb, true≢false, false≢true}
+use Rattle.std.proofs.Common.{◌≡◌, ◌≢◌, ℕ, ◌==◌, Bool, true, false, not, ◌&&◌, cond, List, [], ◌∷◌, ◌++◌, refl, sym, ap, ◌∙◌, subst, inl, inr, ◌⊎◌}
+use Rattle.std.proofs.lemmas.Bool.{cases_Bool, cases_eq, eq-eqb, ne_eqb, true≢false}
 use Rattle.wh_words.specs.Letters.{inverse_letter}
 use Rattle.wh_words.specs.Words.{IsReduced, StartsOtherThan}
 use Rattle.wh_words.proofs.FreeReduction.{inverse-inverse, inverse-other, turned}
-use Rattle.wh_words.specs.Passes.{is_other, kept, junction_of, junction, pass, last_or}
-use Rattle.wh_words.proofs.OnePass.{after_letter}
+use Rattle.wh_words.specs.Passes.{kept, junction_of, pass}
 
 module _ (a : ℕ) (has : ℕ → Bool) (holds : has a ≡ true) (omits : has (inverse_letter a) ≡ false) where
   pub record Other (z : ℕ) : Type 0 where

@@ -1,12 +1,11 @@
 -- The pass round a cyclic word is cyclically reduced, and how long it is.
-use Rattle.std.proofs.Common.{◌≡◌, ◌≢◌, ℕ, suc, ◌+◌, ◌-◌, ◌<◌, ◌≤◌, ◌==◌, ltb, Bool, true, false, not, ◌&&◌, cond, List, [], ◌∷◌, ◌++◌, length, get_or, refl, sym, ap, ◌∙◌, subst, inl, inr, ◌⊎◌, arith, append_assoc, append-nil, length-append}
-use Rattle.std.proofs.lemmas.Bool.{cases_Bool, cases_eq, true≢false}
+use Rattle.std.proofs.Common.{◌≡◌, ℕ, ◌+◌, Bool, true, false, cond, List, [], ◌∷◌, ◌++◌, length, refl, sym, ap, ◌∙◌, subst, arith, append_assoc, length-append}
 use Rattle.std.specs.List.{flat_map}
 use Rattle.wh_words.specs.Letters.{inverse_letter}
-use Rattle.wh_words.specs.Words.{free_reduction, IsReduced}
-use Rattle.wh_words.specs.CyclicWords.{cyclic_reduction, cyclic_word, cyclic_core, ends_cancel, rotate, IsCyclicallyReduced, IsLeastRotation}
-use Rattle.wh_words.proofs.FreeReduction.{inverse-inverse, inverse-other, turned, free_reduction-same, front-reduced}
-use Rattle.wh_words.proofs.Turning.{Ends, ends, ends_cancel-two, same_ends, other_ends, cyclic_core-other, last_two}
+use Rattle.wh_words.specs.Words.{IsReduced}
+use Rattle.wh_words.specs.CyclicWords.{cyclic_reduction, cyclic_word, cyclic_core, ends_cancel, IsCyclicallyReduced, IsLeastRotation}
+use Rattle.wh_words.proofs.FreeReduction.{turned, free_reduction-same, front-reduced}
+use Rattle.wh_words.proofs.Turning.{Ends, ends, other_ends, cyclic_core-other, last_two}
 use Rattle.wh_words.proofs.Turning.Ends.{none, one, two}
 use Rattle.wh_words.proofs.Rotations.{least_rotation-is}
 use Rattle.wh_words.proofs.StoredWords.{rotate-length}

@@ -1,11 +1,10 @@
 -- Words that are written into a row.
-use Rattle.std.proofs.Common.{◌≡◌, ℕ, zero, suc, ◌+◌, ◌-◌, ◌*◌, ◌<◌, ◌≤◌, List, [], ◌∷◌, ◌++◌, length, get_or, take, drop, map, slice_range, refl, sym, ap, ◌∙◌, subst, arith, length-append, length-take, length-drop}
-use Rattle.std.proofs.lemmas.List.{take_all, drop_at, take_at, take_more, map_more, length-map, take-append-drop}
+use Rattle.std.proofs.Common.{◌≡◌, ℕ, ◌+◌, ◌-◌, ◌<◌, ◌≤◌, List, [], ◌∷◌, ◌++◌, length, take, drop, refl, sym, ap, ◌∙◌, subst, arith, length-append, length-take, length-drop}
+use Rattle.std.proofs.lemmas.List.{drop_at, take_at}
 use Rattle.std.proofs.lemmas.List.Elements.{All-nil, All-cons, All-append}
-use Rattle.std.proofs.lemmas.List.Sums.{sum_by_push, sum_by-cons}
-use Rattle.std.specs.List.{All, sum_by}
+use Rattle.std.proofs.lemmas.List.Sums.{sum_by_push}
 use Rattle.wh_words.specs.CyclicWords.{cyclic_word, least_rotation}
-use Rattle.wh_words.specs.Tuples.{TupleData, Tuple, IsTuple, IsRoomed, tuple_length, with_word}
+use Rattle.wh_words.specs.Tuples.{Tuple, IsTuple, IsRoomed, tuple_length, with_word}
 use Rattle.wh_words.specs.Words.{IsOfRank}
 use Rattle.wh_words.specs.Storage.{split_at, EndsRise, tuple_of, IsStored}
 use Rattle.wh_words.proofs.StoredWords.{split_at-push, split_at_total, split_at_length, ends_rise-push}

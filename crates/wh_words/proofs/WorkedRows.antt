@@ -1,12 +1,12 @@
 -- The definitions, computed on worked examples. Letters are written by index: a 0, A 1, b 2, B 3, c 4, C 5.
-use Rattle.std.proofs.Common.{◌≡◌, ℕ, List, [], ◌∷◌, refl}
+use Rattle.std.proofs.Common.{◌≡◌, [], ◌∷◌, refl}
 use Rattle.std.specs.declared.cmp.Ordering.TheVariants.{Less, Greater}
 use Rattle.wh_words.specs.Letters.{inverse_letter}
 use Rattle.wh_words.specs.Words.{free_reduction, word_cmp}
 use Rattle.wh_words.specs.CyclicWords.{cyclic_core, least_below, cyclic_reduction, cyclic_word}
-use Rattle.wh_words.specs.Tuples.{TupleData, tuple_length}
+use Rattle.wh_words.specs.Tuples.{TupleData}
 use Rattle.wh_words.specs.Moves.{cut_move, move_cmp}
-use Rattle.wh_words.specs.Moves.Kind.{swap, invert, cut}
+use Rattle.wh_words.specs.Moves.Kind.{swap, invert}
 use Rattle.wh_words.specs.Images.{images}
 use Rattle.wh_words.specs.Action.{act}
 

@@ -1,5 +1,5 @@
 -- The Whitehead graph of a tuple, by the list of its edges, after Lyndon and Schupp, I.4.
-use Rattle.std.specs.Prelude.{ℕ, ◌+◌, ◌-◌, ◌==◌, ◌&&◌, ◌||◌, Bool, not, List, [], ◌∷◌, length, get_or, count_by}
+use Rattle.std.specs.Prelude.{ℕ, ◌-◌, ◌==◌, ◌&&◌, ◌||◌, Bool, not, List, [], ◌∷◌, length, get_or, count_by}
 use Rattle.std.specs.List.{flat_map}
 use Rattle.wh_words.specs.Letters.{inverse_letter}
 use Rattle.wh_words.specs.Tuples.{TupleData}

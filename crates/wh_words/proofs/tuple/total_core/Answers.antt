@@ -1,6 +1,5 @@
-use Rattle.std.proofs.Common.{◌≡◌, ℕ, ◌+◌, ◌<◌, ◌≤◌, length, take, map, sym, ap, ◌∙◌, arith, rules}
-use Rattle.std.specs.List.{sum_by}
-use Rattle.wh_words.specs.CyclicWords.{cyclic_word, cyclic_core}
+use Rattle.std.proofs.Common.{◌≡◌, ◌+◌, length, ap, ◌∙◌, arith}
+use Rattle.wh_words.specs.CyclicWords.{cyclic_core}
 use Rattle.wh_words.specs.Words.{IsReduced}
 use Rattle.wh_words.proofs.MadeOfReduced.{cyclic_core_length, total_more, total_few}
 use Rattle.wh_words.proofs.tuple.total_core.Goals as goal

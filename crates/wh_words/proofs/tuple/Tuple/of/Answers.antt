@@ -1,7 +1,7 @@
-use Rattle.std.proofs.Common.{◌≡◌, ℕ, List, [], ◌+◌, ◌<◌, ◌≤◌, length, get_or, sym, ap, ◌∙◌, subst, arith, rules}
+use Rattle.std.proofs.Common.{◌≡◌, ℕ, [], length, sym, ap, ◌∙◌, subst, arith}
 use Rattle.wh_words.specs.CyclicWords.{cyclic_word, cyclic_core, IsCyclicallyReduced}
 use Rattle.wh_words.specs.Words.{IsReduced, IsOfRank}
-use Rattle.wh_words.specs.Tuples.{Tuple, with_word}
+use Rattle.wh_words.specs.Tuples.{Tuple}
 use Rattle.wh_words.proofs.Rotations.{cyclic_word-cyclic_core}
 use Rattle.wh_words.proofs.StoredWords.{cyclic_core-of_rank}
 use Rattle.wh_words.proofs.MadeOfReduced.{cyclic_core_good, of_fits, of_place, of_more, of_done}

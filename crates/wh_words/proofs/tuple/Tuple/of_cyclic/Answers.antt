@@ -1,9 +1,9 @@
-use Rattle.std.proofs.Common.{◌≡◌, ℕ, List, [], ◌+◌, ◌<◌, ◌≤◌, length, get_or, sym, ap, ◌∙◌, subst, arith, rules}
+use Rattle.std.proofs.Common.{ℕ, [], length, sym, ap, ◌∙◌, subst, arith}
 use Rattle.wh_words.specs.CyclicWords.{cyclic_word}
 use Rattle.wh_words.specs.Tuples.{Tuple, with_word}
 use Rattle.wh_words.specs.Words.{IsOfRank}
 use Rattle.wh_words.proofs.CutImages.{own_reduced}
-use Rattle.wh_words.proofs.MadeOfCyclic.{written, made_fits, made_place, made_more, made_own}
+use Rattle.wh_words.proofs.MadeOfCyclic.{made_fits, made_place, made_more, made_own}
 use Rattle.wh_words.proofs.tuple.Tuple.of_cyclic.Goals as goal
 
 pub loop-word-init : goal.loop-word-init

@@ -1,19 +1,17 @@
-use Rattle.std.proofs.Common.{◌≡◌, ℕ, ◌+◌, ◌<◌, ◌≤◌, List, [], ◌∷◌, ◌++◌, length, map, sym, ap, ◌∙◌, subst, arith, rules, length-append}
+use Rattle.std.proofs.Common.{◌≡◌, ℕ, ◌+◌, List, [], ◌∷◌, ◌++◌, length, map, sym, ap, ◌∙◌, subst, arith, length-append}
 use Rattle.std.proofs.lemmas.List.{length-map}
 use Rattle.wh_words.specs.CyclicWords.{cyclic_word, least_rotation}
 use Rattle.wh_words.specs.Tuples.{Tuple}
 use Rattle.wh_words.specs.Words.{IsOfRank}
-use Rattle.wh_words.specs.LetterSets.{in_set}
-use Rattle.wh_words.specs.Images.{swap_letter, invert_letter}
+use Rattle.wh_words.specs.Images.{swap_letter}
 use Rattle.wh_words.specs.Action.{substitute}
 use Rattle.wh_words.specs.Moves.{IsKind}
-use Rattle.wh_words.specs.Moves.Kind.{swap, invert, cut}
-use Rattle.wh_words.specs.Passes.{round_pass}
+use Rattle.wh_words.specs.Moves.Kind.{swap}
 use Rattle.wh_words.proofs.Rotations.{cyclic_word-same}
 use Rattle.wh_words.proofs.StoredWords.{cyclic_word-of_rank}
 use Rattle.wh_words.proofs.ImageLetters.{substitute_of_rank}
-use Rattle.wh_words.proofs.CutImages.{cut_image, least_length}
-use Rattle.wh_words.proofs.Mapped.{swap_image, invert_image}
+use Rattle.wh_words.proofs.CutImages.{least_length}
+use Rattle.wh_words.proofs.Mapped.{swap_image}
 use Rattle.wh_words.proofs.Storing.{letter_fits, place_fits, word_written, end_written, row_same, row_push, row_view}
 use Rattle.wh_words.proofs.tuple.Tuple.push_swap.Goals as goal
 
