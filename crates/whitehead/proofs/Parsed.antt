@@ -1,6 +1,6 @@
 -- What the parser finds is what the words ask.
 use Rattle.std.proofs.Common.{◌≡◌, ◌≢◌, List, [], ◌∷◌, ◌∙◌, ap, sym, refl, codes, Option, None, Some, inl, inr}
-use Rattle.clap.specs.Words.{Row, Text, Kinds, HasKind, kind_of, first_of, first_value, found_of, rows_of, fault_of, matches_of}
+use Rattle.clap.specs.Words.{Row, Text, Kinds, HasKind, kind_of, first_value, rows_of, fault_of, matches_of}
 use Rattle.clap.specs.declared.error.Error.{Error}
 use Rattle.clap.specs.declared.error.kind.ErrorKind.TheVariants as kind
 use Rattle.clap.specs.declared.parser.matches.Found.{Found}

@@ -1,12 +1,11 @@
 -- The flows of a side can be printed.
-use Rattle.std.proofs.Common.{◌≡◌, ℕ, ◌+◌, ◌*◌, ◌^◌, ◌<◌, ◌≤◌, List, [], get_or, ◌∙◌, arith, length}
+use Rattle.std.proofs.Common.{ℕ, ◌*◌, ◌≤◌, List, arith}
 use Rattle.std.proofs.lemmas.List.Sums.{count_by-le-length}
-use Rattle.wh_words.specs.Tuples.{TupleData, IsTuple, tuple_length}
+use Rattle.wh_words.specs.Tuples.{TupleData, IsTuple}
 use Rattle.wh_words.specs.Edges.{edges, ends_at, deg}
-use Rattle.wh_flow.specs.Nets.{cell}
 use Rattle.wh_graph.proofs.EdgeCounts.{edges_length}
 use Rattle.wh_reduce.specs.FlowLists.{AreFlows}
-use Rattle.wh_text.specs.FlowTexts.{HaveLines, HasSmallValue}
+use Rattle.wh_text.specs.FlowTexts.{HaveLines}
 
 degree_few : (t : TupleData) (a : ℕ) → IsTuple t → deg a t ≤ 4096
 degree_few t a is = omega (arith, count_by-le-length (ends_at a) (edges t), edges_length t, is.short)

@@ -4,11 +4,9 @@ use Rattle.std.specs.declared.option.Option.{Option}
 use Rattle.clap.specs.Words.{Text}
 use Rattle.wh_io.specs.Device.{Consumed, Appended}
 use Rattle.wh_text.specs.declared.status.Status.{Status}
-use Rattle.wh_text.specs.declared.status.Status.TheVariants.{Done, Refused, WriteFault}
 use Rattle.wh_text.specs.Problems.{most_bytes}
 use Rattle.whitehead.specs.Asked.{asked}
 use Rattle.whitehead.specs.Endings.{Finished}
-use Rattle.whitehead.specs.Replies.{Replies}
 use Rattle.whitehead.specs.Replies.Replies.{refused, answered}
 use Rattle.whitehead.specs.Outcome.{Told, HasTold, RanTo}
 use Rattle.whitehead.specs.Outcome.Told.{words_refused, replied}
@@ -25,7 +23,7 @@ module _ (words : List Text) (left left' held held' : Option (List ℕ)) (bytes 
 
   pub ran_from : (c c' : ℕ) (status : Status) (text : List ℕ) (result : Status) → Told words bytes status text → Finished held held' c c' text status result → RanTo words left left' held held' result
   ran_from c c' status text result told f = elim f.1 [
-      inl h ↦ subst (RanTo words left left' held held') (sym h.0) (told_ran told h.1)
+    | inl h ↦ subst (RanTo words left left' held held') (sym h.0) (told_ran told h.1)
     | inr h ↦ subst (RanTo words left left' held held') (sym h.0)
         (record { bytes = bytes; text = text; status = status; read = read; whole = whole; written = h.1; told = told })
-    ]
+  ]

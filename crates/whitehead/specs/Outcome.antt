@@ -1,8 +1,8 @@
 -- What a run of the program does.
-use Rattle.std.specs.Prelude.{◌≡◌, ◌≢◌, ℕ, ◌≤◌, ◌⊎◌, List, [], None, Some}
+use Rattle.std.specs.Prelude.{◌≡◌, ℕ, ◌⊎◌, List, [], None, Some}
 use Rattle.std.specs.declared.option.Option.{Option}
 use Rattle.clap.specs.Words.{Text}
-use Rattle.wh_io.specs.Device.{Consumed, Appended, Rose}
+use Rattle.wh_io.specs.Device.{Consumed, Appended}
 use Rattle.wh_text.specs.declared.status.Status.{Status}
 use Rattle.wh_text.specs.declared.status.Status.TheVariants.{Done, No, Refused, Undecided, ReadFault, WriteFault, OutOfMemory}
 use Rattle.wh_text.specs.Problems.{most_bytes}

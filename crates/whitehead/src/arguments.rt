@@ -59,11 +59,7 @@ fn option_in(least: u32, most: u32, standing: u32, text: Option<&str>) -> Option
 }
 
 /// What the three texts ask.
-fn arguments_of(
-    name: Option<&str>,
-    limit: Option<&str>,
-    workers: Option<&str>,
-) -> Option<Arguments>
+fn arguments_of(name: Option<&str>, limit: Option<&str>, workers: Option<&str>) -> Option<Arguments>
     ensures { result ≡ asked_by (option_map (λ t. t.now) name.entry) (option_map (λ t. t.now) limit.entry) (option_map (λ t. t.now) workers.entry) }
 {
     let command = command(name)?;

@@ -6,7 +6,9 @@ ghost use Rattle.whitehead.specs.Replies.{Answers, IsSideOf, Replies};
 
 use std::alloc::Global;
 use wh_reduce::{flows, reduce};
-use wh_text::{Answer, Command, Problem, ReadError, Side, Status, print_answer, print_refusal, read_problem};
+use wh_text::{
+    Answer, Command, Problem, ReadError, Side, Status, print_answer, print_refusal, read_problem,
+};
 use wh_words::{List, OutOfMemory, Tuple};
 
 /// A status and a text.

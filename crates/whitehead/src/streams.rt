@@ -20,7 +20,11 @@ pub enum InputError {
 
 /// The bytes of a source to its end, or to one byte past the limit. `Fault` comes only where the source's count of
 /// faults rose in this call.
-pub fn read_all<S: Source>(alloc: Global, source: &mut S, limit: usize) -> Result<Vec<u8>, InputError>
+pub fn read_all<S: Source>(
+    alloc: Global,
+    source: &mut S,
+    limit: usize,
+) -> Result<Vec<u8>, InputError>
     requires { limit < 2 ^ 32 }
     ensures bytes { IfOk result (λ v. Consumed (S.left source.old) (S.left source.new) v.items) }
     ensures whole { IfOk result (λ v. IsWholeUpTo limit v.items (S.left source.new)) }

@@ -12,7 +12,7 @@ returns-in-Ok c =
     let f = found_of c.in-Ok.found in
     let e : c.arguments_of.result ≡ asked_by (first_value f (codes "COMMAND")) (first_value f (codes "limit")) (first_value f (codes "workers")) = search rules in
     subst (λ (r : Result Arguments WordsError). Tells r (asked words)) (sym c.ok_or.ensures.value)
-      (tells_found c.arguments_of.result (asked words) (asked_is words f c.in-Ok.ensures.fails c.in-Ok.ensures.matches ∙ sym e))
+    (tells_found c.arguments_of.result (asked words) (asked_is words f c.in-Ok.ensures.fails c.in-Ok.ensures.matches ∙ sym e))
 
 pub returns : goal.returns
 returns c = refused (map (λ w. w.now) c.args.words.now) c.in-Err.error c.in-Err.ensures.fails (search rules)

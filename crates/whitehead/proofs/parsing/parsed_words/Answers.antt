@@ -1,8 +1,6 @@
-use Rattle.std.proofs.Common.{rules, ap, ap₂, refl, sym, subst, codes, true, map, List, Some, [], ◌∷◌, ◌≡◌, ◌∙◌}
+use Rattle.std.proofs.Common.{rules, ap, ap₂, subst, map, ◌≡◌, ◌∙◌}
 use Rattle.std.proofs.lemmas.Result.{IfOk-weaker}
-use Rattle.clap.specs.Words.{App, Row, Rule, Text, FailsBy, fault_of, matches_of, app_of, is_simple, is_simple_and_free, new_app, new_rule, rule_of, with_rule}
-use Rattle.clap.specs.Simple.{app_of_fields}
-use Rattle.clap.specs.declared.builder.ArgAction.TheVariants.{Set}
+use Rattle.clap.specs.Words.{App, FailsBy, fault_of, matches_of, app_of, is_simple, is_simple_and_free, rule_of, with_rule}
 use Rattle.whitehead.specs.CommandLine.{program, bare_program, command_rule, limit_rule, workers_rule}
 use Rattle.whitehead.proofs.Simple.{program_simple, program_free}
 use Rattle.whitehead.proofs.parsing.parsed_words.Goals as goal

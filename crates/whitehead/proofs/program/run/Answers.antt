@@ -1,6 +1,4 @@
-use Rattle.std.proofs.Common.{rules, inl, inr, refl, [], subst, List, ℕ, ◌∙◌}
-use Rattle.wh_text.specs.declared.status.Status.TheVariants.{Refused}
-use Rattle.whitehead.specs.Endings.{Finished}
+use Rattle.std.proofs.Common.{inl, inr, refl, []}
 use Rattle.whitehead.specs.Outcome.Told.{words_refused, replied}
 use Rattle.whitehead.proofs.Pieces.{consumed_none}
 use Rattle.whitehead.proofs.Telling.{ran_from}
@@ -10,9 +8,9 @@ pub returns-in-Err-Refused-clause-ran : goal.returns-in-Err-Refused-clause-ran
 returns-in-Err-Refused-clause-ran g c =
     let nothing_asked = rw c.in-Err-Refused.field-0-is at c.in-Err-Refused.ensures in
     ran_from _ _ _ _ _ [] (consumed_none (g.S.Source.left c.args.source.now)) (inl (nothing_asked, refl)) _ _ _ _ _
-      (words_refused nothing_asked) (rw c.refused_words.ensures at c.finish.ensures)
+    (words_refused nothing_asked) (rw c.refused_words.ensures at c.finish.ensures)
 
 pub returns-in-Ok-reply_to-clause-ran : goal.returns-in-Ok-reply_to-clause-ran
 returns-in-Ok-reply_to-clause-ran g c =
     ran_from _ _ _ _ _ c.in-Ok-read_all.bytes.items c.in-Ok-read_all.ensures.bytes (inr c.in-Ok-read_all.ensures.whole) _ _ _ _ _
-      (replied c.in-Ok.ensures (rw c.deref.ensures.value at c.in-Ok-reply_to.ensures)) (rw c.items.ensures at c.finish-in-Ok-reply_to.ensures)
+    (replied c.in-Ok.ensures (rw c.deref.ensures.value at c.in-Ok-reply_to.ensures)) (rw c.items.ensures at c.finish-in-Ok-reply_to.ensures)

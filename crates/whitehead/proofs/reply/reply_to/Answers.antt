@@ -7,9 +7,9 @@ use Rattle.whitehead.proofs.reply.reply_to.Goals as goal
 pub returns-in_ok-text-in-Ok : goal.returns-in_ok-text-in-Ok
 returns-in_ok-text-in-Ok c =
     subst (λ (text : List ℕ). Replies c.args.command c.args.bytes.now Done text) (sym (c.of.ensures ∙ c.in_ok-text-in-Ok.ensures))
-      (answered c.in_ok-answer-in-Ok.answer c.in-Ok.ensures.read c.in_ok-answer-in-Ok.ensures.answers)
+    (answered c.in_ok-answer-in-Ok.answer c.in-Ok.ensures.read c.in_ok-answer-in-Ok.ensures.answers)
 
 pub returns-in_ok-text-in-Err : goal.returns-in_ok-text-in-Err
 returns-in_ok-text-in-Err c =
     subst (λ (text : List ℕ). Replies c.args.command c.args.bytes.now Refused text) (sym (c.of-in-Err.ensures ∙ c.in_ok-text-in-Err.ensures))
-      (refused (search rules))
+    (refused (search rules))
