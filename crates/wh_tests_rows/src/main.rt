@@ -57,7 +57,11 @@ fn run_case(rt: &HostRuntime, case: &[u8]) -> io::Result<()> {
     let alloc = rt.alloc();
     let (head, rest) = head_and_input(case);
     let mut words = words_of(alloc, str::from_utf8(head).unwrap_or(""))?;
-    let input = if head.starts_with(b"=|") { without_last(rest) } else { rest };
+    let input = if head.starts_with(b"=|") {
+        without_last(rest)
+    } else {
+        rest
+    };
     let mut source = MemSource::new(Vec::from_slice(alloc, input)?, 4096, Vec::new(alloc));
     let mut sink = MemSink::new(alloc, 4096, Vec::new(alloc));
     if !words.is_empty() {
