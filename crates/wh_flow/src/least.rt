@@ -17,6 +17,7 @@ pub fn least_flow(net: &Net, flow: &Flow, s: Letter, t: Letter) -> Flow
     ensures first { IsFirstFlow (cell net.now.cells) (cell result) s t }
     ensures same { HaveOneValue (cell flow.now) (cell result) s }
 {
+    // Both indices are below 52, which the proof takes from these calls.
     s.index();
     t.index();
     let mut least = Flow { cells: flow.cells };

@@ -53,6 +53,7 @@ pub fn max_flow<L: Ledger>(net: &Net, s: Letter, t: Letter, steps: &mut Steps<L>
     ensures cut { FillsLeastCut (cell net.now.cells) (cell result) s t }
     ensures cost { steps.new ≤ steps.old + degree (cell net.now.cells) s }
 {
+    // The index is below 52, which the proof takes from this call.
     s.index();
     let mut flow = Flow::zero();
     'raise: while augment(net, &mut flow, s, t, steps) {}

@@ -33,6 +33,7 @@ impl Net {
         ensures same { result ≡ record { rank = rank; cells = replicate 2704 0 } }
         ensures none { edge_count result.cells ≡ 0 }
     {
+        // The rank is at most 26, which the proof takes from this call.
         rank.get();
         Net {
             rank,

@@ -32,6 +32,7 @@ pub fn least_cut(net: &Net, flow: &Flow, s: Letter, t: Letter) -> LetterSet
     ensures cut { IsLeastCut (cell net.now.cells) s t (in_set result) }
     ensures of_rank { result < 2 ^ (2 * net.now.rank) }
 {
+    // The index is below 52, which the proof takes from this call.
     t.index();
     reached(net.cells(), &flow.cells, net.letters(), s.index() as usize)
 }

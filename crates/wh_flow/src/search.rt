@@ -126,6 +126,7 @@ fn is_back(flow: &[u32], from: usize, x: usize, y: usize) -> bool
     from <= 52 * y + x && 0 < flow[52 * y + x]
 }
 
+/// The lesser of two amounts.
 fn lesser(a: u32, b: u32) -> u32
     ensures first { result ≤ a }
     ensures second { result ≤ b }

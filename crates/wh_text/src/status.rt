@@ -5,9 +5,9 @@ ghost use Rattle.wh_text.specs.Statuses.{status_number};
 /// How a run ended.
 #[derive(Clone, Copy, PartialEq, Eq, Debug)]
 pub enum Status {
-    /// The answer is written, and it is no no, no invalid and no undecided.
+    /// An answer is written, other than a no, an invalid or an undecided one.
     Done,
-    /// A no or an invalid is written.
+    /// A no or an invalid answer is written.
     No,
     /// A refusal is written.
     Refused,
