@@ -17,7 +17,7 @@ use Rattle.wh_text.specs.Spellings.{are, letter_of, letter_at, letters_at, word_
 use Rattle.wh_text.specs.TupleLines.{items_at, words_at, short_tuple, tuple_at}
 use Rattle.wh_text.specs.Problems.{Sheet, ProblemData, blank_sheet, most_bytes, greatest_rank, rank_at, rank_number, allowed_rank, kept_line, line_of_fields, good_line, line_at, lines_at, one_tuple, problem_with, whole, problem}
 use Rattle.wh_text.specs.Laws.{IsClean, NamesTheFirstBadByte}
-use Rattle.wh_text.proofs.Items.{bind_err}
+use Rattle.wh_text.proofs.Equations.{bind_err}
 use Rattle.wh_text.proofs.TextLaws.{bad_clean}
 
 -- ---- what other readers refuse is no byte

@@ -1,13 +1,24 @@
--- What an equation between results tells of their parts: for the laws on texts.
-use Rattle.std.proofs.Common.{◌≡◌, ℕ, ◌==◌, ◌≤◌, ltb, Bool, true, false, cond, List, [], ◌∷◌, map, refl, ap, ◌∙◌, arith, Result, Ok, Err}
+-- What an equation between results, or between tests, tells of their parts: for the readers of items and all laws.
+use Rattle.std.proofs.Common.{◌≡◌, ℕ, ◌==◌, ◌≤◌, ltb, Bool, true, false, cond, List, [], ◌∷◌, map, refl, ap, ◌∙◌, arith, Result, Ok, Err, inl, inr, ◌⊎◌}
 use Rattle.std.specs.Prelude.{◌&&◌}
 use Rattle.std.proofs.lemmas.Bool.{eqb-true, false≢true}
 use Rattle.std.proofs.lemmas.Bool.Decides.{nat_tests}
 use Rattle.wh_text.specs.declared.read_error.ReadError.{ReadError}
 use Rattle.wh_text.specs.Lines.{Field}
+use Rattle.wh_text.specs.Readings.{◌>>=◌}
 use Rattle.wh_text.specs.Spellings.{are}
 use Rattle.wh_text.proofs.Scanning.{eq_true}
-use Rattle.wh_text.proofs.NumberLaws.{both_true}
+
+pub bind_ok : {A B : Type 0} (r : Result A ReadError) (f : A → Result B ReadError) (y : B) → (r >>= f) ≡ Ok y → (x : A) × (r ≡ Ok x) × (f x ≡ Ok y)
+bind_ok (Ok x) f y e = (x, refl, e)
+bind_ok (Err d) f y e = absurd (cc)
+
+pub bind_err : {A B : Type 0} (r : Result A ReadError) (f : A → Result B ReadError) (d : ReadError) → (r >>= f) ≡ Err d → (r ≡ Err d) ⊎ ((x : A) × (r ≡ Ok x) × (f x ≡ Err d))
+bind_err (Ok x) f d e = inr (x, refl, e)
+bind_err (Err g) f d e = inl (cc)
+
+pub ok_is : {A : Type 0} (x y : A) → ◌≡◌ {A = Result A ReadError} (Ok x) (Ok y) → x ≡ y
+ok_is x y e = cc
 
 pub unless_ok : {A : Type 0} (t : Bool) (e : ReadError) (r : Result A ReadError) (x : A) → cond t (Err e) r ≡ Ok x → (t ≡ false) × (r ≡ Ok x)
 unless_ok true e r x h = absurd (cc)
@@ -22,6 +33,10 @@ not_more a b e = grind (arith, nat_tests)
 
 pub is_not_more : (a b : ℕ) → b ≤ a → ltb a b ≡ false
 is_not_more a b h = grind (arith, nat_tests)
+
+pub both_true : (s t : Bool) → (s && t) ≡ true → (s ≡ true) × (t ≡ true)
+both_true true t e = (refl, e)
+both_true false t e = absurd (cc)
 
 pub are_is : (bs text : List ℕ) → are bs text ≡ true → bs ≡ text
 are_is [] [] e = refl

@@ -1,9 +1,9 @@
--- Reading letters and words one after the other.
-use Rattle.std.proofs.Common.{◌≡◌, ℕ, suc, ◌+◌, ◌*◌, ◌<◌, ◌≤◌, ltb, Bool, true, false, cond, List, [], ◌∷◌, ◌++◌, length, map, get_or, drop, sym, ap, ◌∙◌, refl, subst, arith, None, Some, append-nil, append_assoc, Result, Ok, Err, inl, inr, ◌⊎◌}
+-- Reading letters and words one after the other: for the loops over the bytes of a field and over the fields of a `tuple` line.
+use Rattle.std.proofs.Common.{◌≡◌, ℕ, ◌+◌, ◌*◌, ◌<◌, ◌≤◌, ltb, Bool, true, false, cond, List, [], ◌∷◌, ◌++◌, length, map, get_or, drop, sym, ap, ◌∙◌, refl, subst, arith, None, Some, append-nil, append_assoc, Result, Ok, Err}
 use Rattle.std.specs.Prelude.{codes}
 use Rattle.std.specs.declared.option.Option.{Option}
 use Rattle.std.specs.List.{All, sum_by}
-use Rattle.std.proofs.lemmas.List.{drop_more, drop_all}
+use Rattle.std.proofs.lemmas.List.{drop_more, drop_all, length-map}
 use Rattle.std.proofs.lemmas.List.Elements.{All-nil, All-cons, All-head, All-tail}
 use Rattle.std.proofs.lemmas.List.Sums.{sum_by-cons}
 use Rattle.std.proofs.lemmas.Bool.Decides.{nat_tests}
@@ -18,8 +18,9 @@ use Rattle.wh_text.specs.declared.read_error.ReadError.TheVariants as errors
 use Rattle.wh_text.specs.Lines.{Field}
 use Rattle.wh_text.specs.Scans.{bytes_within}
 use Rattle.wh_text.specs.Readings.{◌>>=◌, Refuses}
-use Rattle.wh_text.specs.Spellings.{are, letter_of, letter_at, letters_at, word_at}
+use Rattle.wh_text.specs.Spellings.{are, letter_of, letter_text, letter_at, letters_at, word_at}
 use Rattle.wh_text.specs.TupleLines.{words_at, items_at, short_tuple}
+use Rattle.wh_text.proofs.Equations.{bind_ok, ok_is, is_not_more}
 
 -- what was read so far, before what reading the rest gives
 abbrev pub with_front : {A : Type 0} → List A → Result (List A) ReadError → Result (List A) ReadError
@@ -28,17 +29,6 @@ with_front front read = read >>= λ xs. Ok (front ++ xs)
 pub front_more : {A : Type 0} (front : List A) (x : A) (r : Result (List A) ReadError) → with_front (front ++ x ∷ []) r ≡ with_front front (r >>= λ xs. Ok (x ∷ xs))
 front_more front x (Ok xs) = ap (λ v. Ok v) (append_assoc front (x ∷ []) xs)
 front_more front x (Err e) = refl
-
-pub bind_ok : {A B : Type 0} (r : Result A ReadError) (f : A → Result B ReadError) (y : B) → (r >>= f) ≡ Ok y → (x : A) × (r ≡ Ok x) × (f x ≡ Ok y)
-bind_ok (Ok x) f y e = (x, refl, e)
-bind_ok (Err d) f y e = absurd (cc)
-
-pub bind_err : {A B : Type 0} (r : Result A ReadError) (f : A → Result B ReadError) (d : ReadError) → (r >>= f) ≡ Err d → (r ≡ Err d) ⊎ ((x : A) × (r ≡ Ok x) × (f x ≡ Err d))
-bind_err (Ok x) f d e = inr (x, refl, e)
-bind_err (Err g) f d e = inl (cc)
-
-pub ok_is : {A : Type 0} (x y : A) → ◌≡◌ {A = Result A ReadError} (Ok x) (Ok y) → x ≡ y
-ok_is x y e = cc
 
 -- ---- letters
 letters_step : (n l c : ℕ) (bs : List ℕ) (i b : ℕ) → i < length bs → b ≡ get_or bs i b →
@@ -65,22 +55,23 @@ pub letters_end : (n l c : ℕ) (bs out : List ℕ) (i at : ℕ) → length bs �
 unfolding letters_at
 letters_end n l c bs out i at le h = sym h ∙ ap (λ r. with_front out (letters_at n l at r)) (drop_all i bs le) ∙ ap (λ v. Ok v) (append-nil out)
 
-letter_small : (n b x : ℕ) → n ≤ 26 → letter_of n b ≡ Some x → x < 2 * n
-letter_small n b x h e = grind (arith, nat_tests)
-
 pub letter_some : (n l c : ℕ) (o : Option ℕ) (x : ℕ) → letter_at l c o ≡ Ok x → o ≡ Some x
 letter_some n l c None x e = absurd (cc)
 letter_some n l c (Some y) x e = ap (λ v. Some v) (ok_is y x e)
 
-pub letters_rank : (n l c : ℕ) (bs xs : List ℕ) → n ≤ 26 → letters_at n l c bs ≡ Ok xs → IsOfRank n xs × (length xs ≡ length bs)
+letter_is : (n b x : ℕ) → n ≤ 26 → letter_of n b ≡ Some x → (b ≡ letter_text x) × (x < 2 * n)
+letter_is n b x h e = grind (arith, nat_tests)
+
+pub text_from : (n l c : ℕ) (bs xs : List ℕ) → n ≤ 26 → letters_at n l c bs ≡ Ok xs → (bs ≡ map letter_text xs) × All (λ x. x < 2 * n) xs
 unfolding letters_at
-letters_rank n l c [] xs h e = subst (λ (v : List ℕ). IsOfRank n v × (length v ≡ 0)) (ok_is [] xs e) (All-nil (λ x. x < 2 * n), refl)
-letters_rank n l c (b ∷ bs) xs h e =
+text_from n l c [] xs h e = subst (λ (v : List ℕ). ([] ≡ map letter_text v) × All (λ x. x < 2 * n) v) (ok_is [] xs e) (refl, All-nil (λ x. x < 2 * n))
+text_from n l c (b ∷ bs) xs h e =
     let p = bind_ok (letter_at l c (letter_of n b)) (λ x. letters_at n l (c + 1) bs >>= λ ys. Ok (x ∷ ys)) xs e in
     let q = bind_ok (letters_at n l (c + 1) bs) (λ ys. Ok (p.0 ∷ ys)) xs p.2 in
-    let r = letters_rank n l (c + 1) bs q.0 h q.1 in
-    subst (λ (v : List ℕ). IsOfRank n v × (length v ≡ suc (length bs))) (ok_is (p.0 ∷ q.0) xs q.2)
-    (All-cons (λ x. x < 2 * n) p.0 q.0 (letter_small n b p.0 h (letter_some n l c (letter_of n b) p.0 p.1)) r.0, omega (arith, r.1))
+    let first : (b ≡ letter_text p.0) × (p.0 < 2 * n) = letter_is n b p.0 h (letter_some n l c (letter_of n b) p.0 p.1) in
+    let rest : (bs ≡ map letter_text q.0) × All (λ x. x < 2 * n) q.0 = text_from n l (c + 1) bs q.0 h q.1 in
+    subst (λ (v : List ℕ). (b ∷ bs ≡ map letter_text v) × All (λ x. x < 2 * n) v) (ok_is (p.0 ∷ q.0) xs q.2)
+    ((ap (λ d. d ∷ bs) first.0 ∙ ap (λ ds. letter_text p.0 ∷ ds) rest.0), All-cons (λ x. x < 2 * n) p.0 q.0 first.1 rest.1)
 
 -- ---- items
 items_step : {A : Type 0} (item : Field → Result A ReadError) (fs : List Field) (i : ℕ) (f : Field) → i < length fs → f ≡ get_or fs i f →
@@ -110,7 +101,7 @@ items_end item fs out i le h = sym h ∙ ap (λ r. with_front out (items_at item
 -- ---- words
 word_by : (t : Bool) (n l : ℕ) (f : Field) (w : List ℕ) → n ≤ 26 → cond t (Ok []) (letters_at n l f.column f.bytes) ≡ Ok w → IsOfRank n w × (length w ≤ length f.bytes)
 word_by true n l f w h e = subst (λ (v : List ℕ). IsOfRank n v × (length v ≤ length f.bytes)) (ok_is [] w e) (All-nil (λ x. x < 2 * n), omega arith)
-word_by false n l f w h e = let r = letters_rank n l f.column f.bytes w h e in (r.0, omega (arith, r.1))
+word_by false n l f w h e = let r = text_from n l f.column f.bytes w h e in (r.1, omega (arith, ap length r.0, length-map w letter_text))
 
 -- what words are that were read
 pub record AreRead (n : ℕ) (fs : List Field) (ws : List (List ℕ)) : Type 0 where
@@ -154,7 +145,4 @@ reduced_cyclic [] = refl
 reduced_cyclic (w ∷ ws) = ap (λ v. v ∷ map cyclic_word (map free_reduction ws)) (cyclic_word-free_reduction w) ∙ ap (λ vs. cyclic_word w ∷ vs) (reduced_cyclic ws)
 
 pub short_done : (n l : ℕ) (ws : List (List ℕ)) → sum_by length ws ≤ 4096 → short_tuple n l ws ≡ Ok (record { rank = n; words = map cyclic_word (map free_reduction ws) })
-short_done n l ws h = cond-false (ltb 4096 (sum_by length ws)) _ _ (is_not_more (sum_by length ws) h) ∙ sym (ap (λ vs. Ok (record { rank = n; words = vs })) (reduced_cyclic ws))
-  where
-    is_not_more : (k : ℕ) → k ≤ 4096 → ltb 4096 k ≡ false
-    is_not_more k h = grind (arith, nat_tests)
+short_done n l ws h = cond-false (ltb 4096 (sum_by length ws)) _ _ (is_not_more 4096 (sum_by length ws) h) ∙ sym (ap (λ vs. Ok (record { rank = n; words = vs })) (reduced_cyclic ws))

@@ -1,6 +1,7 @@
 pub mod Scanning
 pub mod LineCuts
 pub mod FieldCuts
+pub mod Equations
 pub mod Digits
 pub mod Items
 pub mod Sheets
@@ -10,7 +11,6 @@ pub mod NumberLaws
 pub mod WordLaws
 pub mod LineLaws
 pub mod FieldLaws
-pub mod Equations
 pub mod TupleLaws
 pub mod TextLaws
 pub mod BadByteLaws

@@ -11,6 +11,7 @@ use Rattle.std.proofs.lemmas.Fmt.{decimal-digits_value, digits_decimal, digits_v
 use Rattle.wh_text.specs.Numbers.{number, next_digit, digits_from}
 use Rattle.wh_text.specs.Laws.{ReadsNumbers}
 use Rattle.wh_text.proofs.Scanning.{eq_true, eq_false}
+use Rattle.wh_text.proofs.Equations.{both_true}
 
 abbrev pub all_digits : List ℕ → Bool
 all_digits [] = true
@@ -32,10 +33,6 @@ digit_is n b m e = grind (arith, nat_tests)
 
 digit_back : (n b : ℕ) → (leb 48 b && leb b 57) ≡ true → n * 10 + (b - 48) < 2 ^ 64 → next_digit n b ≡ Some (n * 10 + (b - 48))
 digit_back n b e h = grind (arith, nat_tests)
-
-pub both_true : (s t : Bool) → (s && t) ≡ true → (s ≡ true) × (t ≡ true)
-both_true true t e = (refl, e)
-both_true false t e = absurd (cc)
 
 and_then_some : (f : ℕ → Option ℕ) (o : Option ℕ) (m : ℕ) → option_and_then f o ≡ Some m → (k : ℕ) × (o ≡ Some k) × (f k ≡ Some m)
 and_then_some f None m e = absurd (cc)

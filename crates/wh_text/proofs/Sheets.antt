@@ -1,4 +1,4 @@
--- Reading lines one after the other.
+-- Reading lines one after the other: for the loop over all lines.
 use Rattle.std.proofs.Common.{◌≡◌, ℕ, ◌+◌, ◌<◌, ◌≤◌, List, length, take, drop, sym, ap, ◌∙◌, arith, Result, Ok}
 use Rattle.std.proofs.lemmas.List.{drop_all, drop-drop, length-drop}
 use Rattle.wh_text.specs.declared.read_error.ReadError.{ReadError}

@@ -15,8 +15,7 @@ use Rattle.wh_text.specs.Spellings.{are, word_text}
 use Rattle.wh_text.specs.TupleLines.{tuple_at}
 use Rattle.wh_text.specs.Problems.{Sheet, blank_sheet, reduce, most_bytes, greatest_rank, rank_at, first_line, later_line, kept_line, line_of_fields, good_line, line_at, lines_at, one_tuple, whole, problem}
 use Rattle.wh_text.specs.Laws.{is_skipped, kept_lines, IsClean, IsRankLine, IsTupleLine, IsReduceText, ReadsReduceTexts}
-use Rattle.wh_text.proofs.Items.{bind_ok, ok_is}
-use Rattle.wh_text.proofs.Equations.{unless_ok, if_ok, not_more, is_not_more, are_is, are_back, split_fields}
+use Rattle.wh_text.proofs.Equations.{bind_ok, ok_is, unless_ok, if_ok, not_more, is_not_more, are_is, are_back, split_fields}
 use Rattle.wh_text.proofs.TupleLaws.{AreSome, fields_some, Spell, tuple_is, tuple_back, rank_within, rank_is, rank_back}
 
 -- ---- a line

@@ -18,10 +18,10 @@ use Rattle.wh_text.specs.Numbers.{number}
 use Rattle.wh_text.specs.Spellings.{word_at, word_text}
 use Rattle.wh_text.specs.TupleLines.{items_at, words_at, short_tuple, tuple_at}
 use Rattle.wh_text.specs.Problems.{greatest_rank, rank_at, rank_number, allowed_rank}
-use Rattle.wh_text.proofs.Items.{bind_ok, ok_is, words_read}
+use Rattle.wh_text.proofs.Items.{words_read}
 use Rattle.wh_text.proofs.NumberLaws.{reads_numbers}
 use Rattle.wh_text.proofs.WordLaws.{reads_words}
-use Rattle.wh_text.proofs.Equations.{unless_ok, if_ok, not_more, is_not_more}
+use Rattle.wh_text.proofs.Equations.{bind_ok, ok_is, unless_ok, if_ok, not_more, is_not_more}
 
 -- ---- no field is empty
 abbrev pub AreSome : List Field → Type 0

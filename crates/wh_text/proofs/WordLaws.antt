@@ -3,7 +3,7 @@ use Rattle.std.proofs.Common.{◌≡◌, ◌≢◌, ℕ, ◌+◌, ◌*◌, ◌/�
 use Rattle.std.specs.Prelude.{◌&&◌, codes}
 use Rattle.std.specs.declared.option.Option.{Option}
 use Rattle.std.specs.List.{All}
-use Rattle.std.proofs.lemmas.List.Elements.{All-nil, All-cons, All-head, All-tail}
+use Rattle.std.proofs.lemmas.List.Elements.{All-nil, All-head, All-tail}
 use Rattle.std.proofs.lemmas.Bool.Decides.{nat_tests}
 use Rattle.std.proofs.lemmas.Bool.{cond-false, cond_both, eqb-true, false≢true}
 use lib.Pointwise.{pointwise}
@@ -12,26 +12,12 @@ use Rattle.wh_text.specs.Readings.{◌>>=◌}
 use Rattle.wh_text.specs.Spellings.{are, letter_of, letter_text, letter_at, letters_at, word_text}
 use Rattle.wh_text.specs.Laws.{ReadsLetters, ReadsWords, NamesTheFirstBadLetter, IsFirstBadLetter}
 use Rattle.wh_text.proofs.Scanning.{eq_false}
-use Rattle.wh_text.proofs.NumberLaws.{both_true}
-use Rattle.wh_text.proofs.Items.{bind_ok, bind_err, ok_is, letter_some}
+use Rattle.wh_text.proofs.Equations.{bind_err, ok_is, both_true}
+use Rattle.wh_text.proofs.Items.{text_from}
 
 -- ---- letters
 letter_back : (n x : ℕ) → n ≤ 26 → x < 2 * n → letter_of n (letter_text x) ≡ Some x
 letter_back n x h l = grind (arith, nat_tests)
-
-letter_is : (n b x : ℕ) → n ≤ 26 → letter_of n b ≡ Some x → (b ≡ letter_text x) × (x < 2 * n)
-letter_is n b x h e = grind (arith, nat_tests)
-
-text_from : (n l c : ℕ) (bs xs : List ℕ) → n ≤ 26 → letters_at n l c bs ≡ Ok xs → (bs ≡ map letter_text xs) × All (λ x. x < 2 * n) xs
-unfolding letters_at
-text_from n l c [] xs h e = subst (λ (v : List ℕ). ([] ≡ map letter_text v) × All (λ x. x < 2 * n) v) (ok_is [] xs e) (refl, All-nil (λ x. x < 2 * n))
-text_from n l c (b ∷ bs) xs h e =
-    let p = bind_ok (letter_at l c (letter_of n b)) (λ x. letters_at n l (c + 1) bs >>= λ ys. Ok (x ∷ ys)) xs e in
-    let q = bind_ok (letters_at n l (c + 1) bs) (λ ys. Ok (p.0 ∷ ys)) xs p.2 in
-    let first : (b ≡ letter_text p.0) × (p.0 < 2 * n) = letter_is n b p.0 h (letter_some n l c (letter_of n b) p.0 p.1) in
-    let rest : (bs ≡ map letter_text q.0) × All (λ x. x < 2 * n) q.0 = text_from n l (c + 1) bs q.0 h q.1 in
-    subst (λ (v : List ℕ). (b ∷ bs ≡ map letter_text v) × All (λ x. x < 2 * n) v) (ok_is (p.0 ∷ q.0) xs q.2)
-    ((ap (λ d. d ∷ bs) first.0 ∙ ap (λ ds. letter_text p.0 ∷ ds) rest.0), All-cons (λ x. x < 2 * n) p.0 q.0 first.1 rest.1)
 
 text_back : (n l c : ℕ) (xs : List ℕ) → n ≤ 26 → All (λ x. x < 2 * n) xs → letters_at n l c (map letter_text xs) ≡ Ok xs
 unfolding letters_at
