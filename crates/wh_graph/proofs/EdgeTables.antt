@@ -4,7 +4,8 @@ use Rattle.std.specs.List.{All}
 use Rattle.std.proofs.lemmas.Bool.{cases_eq, eq-eqb, ne_eqb}
 use Rattle.std.proofs.lemmas.List.Elements.{All-head, All-tail}
 use Rattle.wh_words.specs.Tuples.{TupleData, IsTuple}
-use Rattle.wh_words.specs.Edges.{edges, joins, crosses, ends_at}
+use Rattle.wh_words.specs.Edges.{edges, joins, crosses, ends_at, cap}
+use Rattle.wh_words.specs.TupleFlows.{edge_table}
 use Rattle.wh_words.specs.Flows.{sum_below, where_in, capacity_of_set}
 use Rattle.wh_flow.specs.Nets.{cell}
 use Rattle.wh_flow.proofs.Sums.{sum-same, sum-add, sum-zero, sum-one}
@@ -194,9 +195,13 @@ table_degree a (e ∷ es) h =
 tuple_edges : (t : TupleData) → IsTuple t → t.rank ≤ 26 → All (JoinsTwo 26) (edges t)
 tuple_edges t is rank k d l = let j : JoinsTwo t.rank (get_or (edges t) k d) = edges_join t is k d l in (omega (arith, j.0, rank), omega (arith, j.1, rank), j.2)
 
-pub graph_capacity : GraphHasTheCapacities
+-- The table of the graph of a tuple has the capacities of the tuple.
+pub edges_capacity : (t : TupleData) (A : ℕ → Bool) → IsTuple t → t.rank ≤ 26 → capacity_of_set (edge_table t) A ≡ cap A t
 unfolding table
-graph_capacity net t A is rank g = capacity_same (cell net.cells) (table (edges t)) A g.edges ∙ table_capacity A (edges t) (tuple_edges t is rank)
+edges_capacity t A is rank = table_capacity A (edges t) (tuple_edges t is rank)
+
+pub graph_capacity : GraphHasTheCapacities
+graph_capacity net t A is rank g = capacity_same (cell net.cells) (edge_table t) A g.edges ∙ edges_capacity t A is rank
 
 pub graph_degree : GraphHasTheDegrees
 unfolding table

@@ -19,7 +19,8 @@ use Rattle.wh_graph.proofs.EdgeTables.{graph_capacity, graph_degree}
 omits_back : (set x : ℕ) → in_set set x ≡ false → bit_at set x ≡ 0
 omits_back set x h = let not_one : bit_at set x ≡ 1 → ⊥ = eqb-false (bit_at set x) 1 h in omega (arith, bit_at-lt set x, not_one)
 
-cut_separates : (n a set : ℕ) → IsCut n a set → Separates a (inverse_letter a) (in_set set)
+-- The set of a cut separates its multiplier from the inverse of that.
+pub cut_separates : (n a set : ℕ) → IsCut n a set → Separates a (inverse_letter a) (in_set set)
 cut_separates n a set v = record { holds = holds set a v.holds; omits = omits set (inverse_letter a) v.omits }
 
 -- A number below 2 ^ k has the bit x only where x is below k.

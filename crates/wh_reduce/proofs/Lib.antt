@@ -1,3 +1,4 @@
 pub mod Traced
 pub mod Stepped
 pub mod Flowing
+pub mod Certificates

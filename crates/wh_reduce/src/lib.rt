@@ -2,6 +2,7 @@
 #![tactic(auto)]
 
 mod generator_flows;
+pub mod laws;
 mod step;
 mod trace;
 
