@@ -3,3 +3,4 @@ pub mod Parsed
 pub mod Pieces
 pub mod Telling
 pub mod Sides
+pub mod OneText

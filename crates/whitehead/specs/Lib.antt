@@ -4,3 +4,4 @@ pub mod Streams
 pub mod Replies
 pub mod Outcome
 pub mod Endings
+pub mod Laws

@@ -2,6 +2,7 @@
 #![tactic(auto)]
 
 mod arguments;
+pub mod laws;
 mod parsing;
 mod program;
 mod reply;
