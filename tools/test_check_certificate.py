@@ -13,7 +13,7 @@ from check_certificate import Broken, Refused, check
 
 ROOT = pathlib.Path(__file__).parent.parent
 
-# abAB, and aab with a trace of one move.
+# abAB, and ab with a trace of one move.
 TORUS = """whitehead 1 reduce
 rank 2
 tuple abAB
