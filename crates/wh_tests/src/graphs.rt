@@ -39,6 +39,7 @@ fn a_maximum_flow_fills_the_least_cut(rt: HostRuntime) -> Result<(), Fail> {
     let net = graph(&tuple(rt.alloc(), "rank 2\ntuple abAB\n")?);
     let a = letter(b'a')?;
     let sink = a.inverse();
+    assert!(rt; a != sink);
     assert!(rt; a.index() < 2 * net.rank().get());
     let flow = max_flow_uncounted(&net, a, sink);
     assert!(rt; check_flow(&net, a, sink, &flow));
