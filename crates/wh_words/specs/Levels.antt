@@ -1,6 +1,8 @@
 -- Levels: the tuples that moves reach without a change of length, after Lyndon and Schupp, I.4.
-use Rattle.std.specs.Prelude.{◌≡◌, ◌≤◌, true, false, List, [], ◌∷◌, length, Contains, ◌↔◌}
-use Rattle.std.specs.Ordering.{is_lt, is_gt}
+use Rattle.std.specs.Prelude.{◌≡◌, ℕ, ◌<◌, ◌≤◌, false, List, [], ◌∷◌, length, Contains, ◌↔◌}
+use Rattle.std.specs.List.{All, IsDistinct}
+use Rattle.std.specs.List.Sorted.{IsStrictlySortedBy}
+use Rattle.std.specs.Ordering.{is_gt, eq_by_cmp}
 use Rattle.std.specs.Cmp.Lexicographic.{slice_cmp}
 use Rattle.wh_words.specs.Tuples.{TupleData, tuple_length, tuple_cmp}
 use Rattle.wh_words.specs.Moves.{Move, IsMove, IsIdentityCut, move_cmp}
@@ -22,16 +24,17 @@ pub data Reaches : TupleData → List Move → TupleData → Type 0 where
 abbrev pub InLevel : TupleData → TupleData → Type 0
 InLevel root t = (ms : List Move) × Reaches root ms t
 
--- Each tuple of the list comes before the next in the order of tuples.
-abbrev pub AreSorted : List TupleData → Type 0
-AreSorted [] = Unit {0}
-AreSorted (t ∷ []) = Unit {0}
-AreSorted (t ∷ u ∷ ts) = (is_lt (tuple_cmp t u) ≡ true) × AreSorted (u ∷ ts)
-
 -- The list is the level of the root in the order of tuples, each of its tuples once.
 pub record IsLevel (root : TupleData) (ts : List TupleData) : Type 0 where
-  pub sorted : AreSorted ts
+  pub sorted : IsStrictlySortedBy tuple_cmp ts
   pub exact : (t : TupleData) → Contains ts t ↔ InLevel root t
+
+-- The level of the root has more than this many tuples: so many different ones are known.
+pub record HasMoreThan (root : TupleData) (limit : ℕ) : Type 0 where
+  pub tuples : List TupleData
+  pub distinct : IsDistinct (eq_by_cmp tuple_cmp) tuples
+  pub within : All (InLevel root) tuples
+  pub more : limit < length tuples
 
 -- The first walk from a root to a tuple: of the shortest lists of level moves that lead there the first, compared move by move.
 pub record IsFirstWalk (root t : TupleData) (ms : List Move) : Type 0 where

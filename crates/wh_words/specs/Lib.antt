@@ -12,6 +12,7 @@ pub mod Flows
 pub mod TupleFlows
 pub mod Traces
 pub mod CapacityTraces
+pub mod MoveLists
 pub mod Levels
 pub mod Laws
 -- How this crate keeps and writes words.

@@ -1,0 +1,108 @@
+//! The cuts that keep the length of a tuple.
+ghost use Rattle.std.specs.Prelude.{◌≡◌, ◌+◌, ◌*◌, ◌^◌, ◌<◌, ◌≤◌, OnOk};
+ghost use Rattle.wh_words.specs.LetterSets.{in_set};
+ghost use Rattle.wh_words.specs.Tuples.{IsTuple};
+ghost use Rattle.wh_words.specs.Moves.Kind.{cut};
+ghost use Rattle.wh_words.specs.Edges.{cap, deg};
+ghost use Rattle.wh_expand.specs.CapacityTables.{IsTable, tuple_capacity};
+ghost use Rattle.wh_expand.specs.FirstLevelMoves.{AreLevelMovesBefore};
+
+use crate::capacity_table::{capacity_table, count_sets};
+use std::alloc::Global;
+use wh_graph::{deg, graph};
+use wh_moves::Move;
+use wh_words::{Letter, LetterSet, OutOfMemory, Tuple};
+
+/// Adds the cut with a set whose capacity is the degree of the multiplier, where it is a cut and no identity cut.
+fn push_cut(
+    moves: &mut Vec<Move>,
+    tuple: &Tuple,
+    mult: Letter,
+    set: LetterSet,
+) -> Result<(), OutOfMemory>
+    requires rank { tuple.now.plain.rank ≤ 6 }
+    requires keeps { cap (in_set set) tuple.now.plain ≡ deg mult tuple.now.plain }
+    requires before { AreLevelMovesBefore tuple.now.plain (cut mult set) moves.old.items }
+    ensures { OnOk result (AreLevelMovesBefore tuple.now.plain (cut mult (set + 1)) moves.new.items) }
+{
+    if let Some(m) = Move::cut(tuple.rank(), mult, set) {
+        if !m.is_identity() {
+            moves.push(m)?;
+        }
+    }
+    Ok(())
+}
+
+/// Adds the cuts with a multiplier and with sets from one up to another that keep the length, by set. A cut keeps the
+/// length where the capacity of its set is the degree of its multiplier (Lyndon and Schupp, I.4).
+fn push_run(
+    moves: &mut Vec<Move>,
+    tuple: &Tuple,
+    mult: Letter,
+    degree: u32,
+    capacities: &[u32],
+    start: usize,
+    end: usize,
+) -> Result<(), OutOfMemory>
+    requires tuple { IsTuple tuple.now.plain }
+    requires rank { tuple.now.plain.rank ≤ 6 }
+    requires degree { degree ≡ deg mult tuple.now.plain }
+    requires capacities { IsTable (tuple_capacity tuple.now.plain) (2 ^ (2 * tuple.now.plain.rank)) capacities.now }
+    requires order { start ≤ end }
+    requires within { end ≤ 2 ^ (2 * tuple.now.plain.rank) }
+    requires before { AreLevelMovesBefore tuple.now.plain (cut mult start) moves.old.items }
+    ensures { OnOk result (AreLevelMovesBefore tuple.now.plain (cut mult end) moves.new.items) }
+{
+    for set in start..end {
+        if capacities[set] == degree {
+            push_cut(moves, tuple, mult, LetterSet::of_bits(set as u64))?;
+        }
+    }
+    Ok(())
+}
+
+/// Adds the cuts with one multiplier that keep the length, by set. The sets that hold the multiplier and omit its inverse
+/// come in runs of masks one after another, one run in each block of four: a run goes through all sets of the letters
+/// before the two.
+fn push_cuts_with(
+    moves: &mut Vec<Move>,
+    tuple: &Tuple,
+    mult: Letter,
+    degree: u32,
+    capacities: &[u32],
+) -> Result<(), OutOfMemory>
+    requires tuple { IsTuple tuple.now.plain }
+    requires rank { tuple.now.plain.rank ≤ 6 }
+    requires of_rank { mult < 2 * tuple.now.plain.rank }
+    requires degree { degree ≡ deg mult tuple.now.plain }
+    requires capacities { IsTable (tuple_capacity tuple.now.plain) (2 ^ (2 * tuple.now.plain.rank)) capacities.now }
+    requires before { AreLevelMovesBefore tuple.now.plain (cut mult 0) moves.old.items }
+    ensures { OnOk result (AreLevelMovesBefore tuple.now.plain (cut (mult + 1) 0) moves.new.items) }
+{
+    let first = count_sets(mult.index());
+    let run = count_sets(2 * (mult.generator() - 1));
+    for block in 0..capacities.len() / (4 * run) {
+        let start = 4 * run * block + first;
+        push_run(moves, tuple, mult, degree, capacities, start, start + run)?;
+    }
+    Ok(())
+}
+
+/// Adds the cuts of a tuple of rank 6 at most that keep its length, by multiplier and then by set.
+pub(crate) fn push_cuts(
+    alloc: Global,
+    moves: &mut Vec<Move>,
+    tuple: &Tuple,
+) -> Result<(), OutOfMemory>
+    requires rank { tuple.now.plain.rank ≤ 6 }
+    requires before { AreLevelMovesBefore tuple.now.plain (cut 0 0) moves.old.items }
+    ensures { OnOk result (AreLevelMovesBefore tuple.now.plain (cut (2 * tuple.now.plain.rank) 0) moves.new.items) }
+{
+    let net = graph(tuple);
+    let capacities = capacity_table(alloc, &net)?;
+    for index in 0..2 * tuple.rank().get() {
+        let mult = Letter::of_index(index);
+        push_cuts_with(moves, tuple, mult, deg(&net, mult), &capacities)?;
+    }
+    Ok(())
+}

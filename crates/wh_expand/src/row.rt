@@ -1,0 +1,68 @@
+//! Rows: a tuple with its level moves.
+ghost use Rattle.std.specs.Prelude.{◌≡◌, ◌+◌, ◌≤◌, OnOk, IfOk};
+ghost use Rattle.wh_words.specs.Tuples.{own_room};
+ghost use Rattle.wh_words.specs.Moves.Kind.{swap, invert, cut};
+ghost use Rattle.wh_expand.specs.FirstLevelMoves.{AreLevelMovesBefore};
+ghost use Rattle.wh_expand.specs.Rows.{AreLevelMoves};
+
+use crate::cuts::push_cuts;
+use std::alloc::Global;
+use std::sync::ledger::Ledger;
+use wh_moves::Move;
+use wh_words::{List, OutOfMemory, Steps, Tuple};
+
+/// A tuple and its level moves, in the order of moves.
+#[derive(Drop)]
+pub struct Row {
+    pub tuple: Tuple,
+    pub moves: List<Move>,
+}
+
+/// Adds all swaps of the rank, by number. They keep the length.
+fn push_swaps(moves: &mut Vec<Move>, tuple: &Tuple) -> Result<(), OutOfMemory>
+    requires { AreLevelMovesBefore tuple.now.plain (swap 1) moves.old.items }
+    ensures { OnOk result (AreLevelMovesBefore tuple.now.plain (invert 1) moves.new.items) }
+{
+    let rank = tuple.rank();
+    for k in 1..rank.get() {
+        moves.push(Move::swap(rank, k).unwrap())?;
+    }
+    Ok(())
+}
+
+/// Adds all inversions of the rank, by number. They keep the length.
+fn push_inversions(moves: &mut Vec<Move>, tuple: &Tuple) -> Result<(), OutOfMemory>
+    requires { AreLevelMovesBefore tuple.now.plain (invert 1) moves.old.items }
+    ensures { OnOk result (AreLevelMovesBefore tuple.now.plain (cut 0 0) moves.new.items) }
+{
+    let rank = tuple.rank();
+    for k in 1..rank.get() + 1 {
+        moves.push(Move::invert(rank, k).unwrap())?;
+    }
+    Ok(())
+}
+
+/// The level moves of a tuple of rank 6 at most, in the order of moves: each move of its rank that keeps its length and
+/// is no identity cut. It takes one step. The tuple needn't be flat (Lyndon and Schupp, I.4).
+pub fn level_moves<L: Ledger>(
+    alloc: Global,
+    tuple: &Tuple,
+    steps: &mut Steps<L>,
+) -> Result<Row, OutOfMemory>
+    requires { tuple.now.plain.rank ≤ 6 }
+    ensures tuple { IfOk result (λ r. r.tuple ≡ own_room tuple.now.plain) }
+    ensures moves { IfOk result (λ r. AreLevelMoves tuple.now.plain r.moves) }
+    ensures step { steps.new ≡ steps.old + 1 }
+{
+    steps.tick();
+    let mut moves = Vec::with_capacity(alloc, 2 * tuple.rank().get() as usize)?;
+    push_swaps(&mut moves, tuple)?;
+    push_inversions(&mut moves, tuple)?;
+    push_cuts(alloc, &mut moves, tuple)?;
+    // Rows are kept in great numbers: each in memory of just its size, and none in what a longer list leaves over.
+    let own_moves = Vec::from_slice(alloc, &moves)?;
+    Ok(Row {
+        tuple: tuple.copy(alloc)?,
+        moves: List::of(own_moves),
+    })
+}
