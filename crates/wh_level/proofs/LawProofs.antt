@@ -1,0 +1,180 @@
+-- The laws of levels.
+use Rattle.std.proofs.Common.{◌≡◌, ◌≢◌, ◌⊎◌, ℕ, zero, suc, ◌/◌, ◌≤◌, ◌^◌, Bool, true, false, cond, ◌==◌, List, [], ◌∷◌, ◌++◌, length, map, Contains, refl, sym, ap, ◌∙◌, subst, arith, inl, inr}
+use Rattle.std.proofs.lemmas.Bool.{true≢false, cases_eq, eq-eqb, ne_eqb}
+use Rattle.std.proofs.lemmas.Cmp.{eq_by_cmp_equiv}
+use Rattle.std.proofs.lemmas.List.Elements.{All-contains, Contains-append_right, All-head, All-tail}
+use Rattle.std.proofs.lemmas.Map.Keys.{sorted_tail}
+use Rattle.std.proofs.lemmas.Map.Views.{All-after_first, Contains-from_any, list_any-from_Contains, tells_apart}
+use Rattle.std.proofs.lemmas.Map.Made.{length-le_from_is_member}
+use Rattle.std.proofs.lemmas.Nat.Bits.{bit_at-pow_other}
+use Rattle.std.specs.Cmp.{IsTotalOrder, on_total, then_total, nat_cmp_total}
+use Rattle.std.specs.Cmp.Lexicographic.{slice_cmp, lists_total, nat_list_cmp_total}
+use Rattle.std.specs.List.{All, IsDistinct}
+use Rattle.std.specs.List.Sorted.{IsStrictlySortedBy}
+use Rattle.std.specs.Ordering.{is_lt, is_gt, eq_by_cmp, ordering_reverse}
+use Rattle.std.specs.declared.cmp.Ordering.{Ordering}
+use Rattle.std.specs.declared.cmp.Ordering.TheVariants.{Less, Equal, Greater}
+use Rattle.wh_words.specs.Letters.{inverse_letter}
+use Rattle.wh_words.specs.LetterSets.{in_set}
+use Rattle.wh_words.specs.CyclicWords.{cyclic_word}
+use Rattle.wh_words.specs.Tuples.{TupleData, IsTuple, tuple_cmp}
+use Rattle.wh_words.specs.TupleTies.{same_from_tied}
+use Rattle.wh_words.specs.Moves.{Kind, Move, IsIdentityCut, move_cmp}
+use Rattle.wh_words.specs.Moves.Kind.{swap, invert, cut}
+use Rattle.wh_words.specs.Images.{image}
+use Rattle.wh_words.specs.Action.{act, act_all, substitute}
+use Rattle.wh_words.specs.Levels.{Reaches, InLevel}
+use Rattle.wh_words.specs.Levels.Reaches.{here, step}
+use Rattle.wh_words.proofs.FreeReduction.{inverse_generator}
+use Rattle.wh_words.proofs.ImageLetters.{act_tuple}
+use Rattle.wh_level.specs.Laws.{KeepsLength, LevelIsWhatIsReached, LevelIsUnique, LimitIsExact, FirstWalkIsUnique}
+use Rattle.wh_level.specs.Laws.KeepsLength.{done as kept_done, step as kept_step}
+use Rattle.wh_level.proofs.Shortlex.{move_cmp_total, same_moves}
+
+-- ---- the order of tuples
+pub tuple_cmp_total : IsTotalOrder tuple_cmp
+tuple_cmp_total = then_total (on_total (λ (t : TupleData). t.rank) nat_cmp_total) (on_total (λ (t : TupleData). t.words) (lists_total nat_list_cmp_total))
+
+-- ---- sorted lists with the same elements
+contains_cases : {X : Type 0} (x : X) (xs : List X) (z : X) → Contains (x ∷ xs) z → (x ≡ z) ⊎ Contains xs z
+contains_cases x xs z (zero, h, e) = inl e
+contains_cases x xs z (suc k, h, e) = inr (k, omega (arith, h), e)
+
+contains_first : {X : Type 0} (x : X) (xs : List X) → Contains (x ∷ xs) x
+contains_first x xs = (0, omega arith, refl)
+
+contains_later : {X : Type 0} (x : X) (xs : List X) (z : X) → Contains xs z → Contains (x ∷ xs) z
+contains_later x xs z c = Contains-append_right (x ∷ []) xs z c
+
+contains_none : {X : Type 0} (z : X) → Contains [] z → ⊥
+contains_none z c = omega (arith, c.1)
+
+less_twice : {K : Type 0} {R : K → K → Ordering} (o : IsTotalOrder R) (x y : K) → R x y ≡ Less → R y x ≡ Less → ⊥
+less_twice o x y h k = true≢false (ap is_lt (sym h ∙ o.antisymm x y ∙ ap ordering_reverse k))
+
+pub less_itself : {K : Type 0} {R : K → K → Ordering} (o : IsTotalOrder R) (x : K) → R x x ≡ Less → ⊥
+less_itself o x h = less_twice o x x h h
+
+after : {K : Type 0} (R : K → K → Ordering) (x : K) (xs : List K) (z : K) → IsStrictlySortedBy R (x ∷ xs) → Contains xs z → R x z ≡ Less
+after R x xs z s c = All-contains (λ q. R x q ≡ Less) xs z (All-after_first R x xs s) c
+
+rest_within : {K : Type 0} {R : K → K → Ordering} (o : IsTotalOrder R) (x y : K) (xs ys : List K) → x ≡ y → IsStrictlySortedBy R (x ∷ xs) → ((z : K) → Contains (x ∷ xs) z → Contains (y ∷ ys) z) → (z : K) → Contains xs z → Contains ys z
+rest_within {R = R} o x y xs ys e s h z c = elim (contains_cases y ys z (h z (contains_later x xs z c))) [
+  | inl is ↦ absurd (less_itself o x (subst (λ q. R x q ≡ Less) (sym (e ∙ is)) (after R x xs z s c)))
+  | inr k ↦ k
+]
+
+pub sorted_same : {K : Type 0} {R : K → K → Ordering} (o : IsTotalOrder R) (xs ys : List K) → IsStrictlySortedBy R xs → IsStrictlySortedBy R ys → ((z : K) → Contains xs z → Contains ys z) → ((z : K) → Contains ys z → Contains xs z) → xs ≡ ys
+sorted_same o [] [] s u h k = refl
+sorted_same o [] (y ∷ ys) s u h k = absurd (contains_none y (k y (contains_first y ys)))
+sorted_same o (x ∷ xs) [] s u h k = absurd (contains_none x (h x (contains_first x xs)))
+sorted_same {K} {R} o (x ∷ xs) (y ∷ ys) s u h k =
+    let e : x ≡ y = elim (contains_cases y ys x (h x (contains_first x xs))) [
+      | inl is ↦ sym is
+      | inr c ↦ elim (contains_cases x xs y (k y (contains_first y ys))) [
+        | inl is ↦ is
+        | inr d ↦ absurd (less_twice o x y (after R x xs y s d) (after R y ys x u c))
+      ]
+    ] in
+    let rest : xs ≡ ys = sorted_same o xs ys (sorted_tail R x xs s) (sorted_tail R y ys u) (rest_within o x y xs ys e s h) (rest_within o y x ys xs (sym e) u k) in
+    ap (λ z. z ∷ xs) e ∙ ap (λ l. y ∷ l) rest
+
+pub level_unique : LevelIsUnique
+level_unique root ts us l m =
+    sorted_same tuple_cmp_total ts us l.sorted m.sorted (λ t c. (m.exact t).1 ((l.exact t).0 c)) (λ t c. (l.exact t).1 ((m.exact t).0 c))
+
+-- ---- one first walk
+gt_flipped : (o p : Ordering) → o ≡ ordering_reverse p → is_gt o ≡ false → is_gt p ≡ false → o ≡ Equal
+gt_flipped Less Less e h k = absurd (true≢false (ap is_lt e))
+gt_flipped Less Equal e h k = absurd (true≢false (ap is_lt e))
+gt_flipped Less Greater e h k = absurd (true≢false k)
+gt_flipped Equal p e h k = refl
+gt_flipped Greater p e h k = absurd (true≢false h)
+
+pub first_walk_unique : FirstWalkIsUnique
+first_walk_unique root t ms ns p q =
+    let e : length ns ≡ length ms = omega (arith, p.shortest ns q.leads, q.shortest ms p.leads) in
+    same_moves ms ns (gt_flipped (slice_cmp move_cmp ms ns) (slice_cmp move_cmp ns ms) ((lists_total move_cmp_total).antisymm ms ns) (p.first ns q.leads e) (q.first ms p.leads (sym e)))
+
+-- ---- more than a limit
+pub tied : (s t : TupleData) → eq_by_cmp tuple_cmp s t ≡ true → s ≡ t
+tied = tells_apart same_from_tied
+
+no_more : (ts us : List TupleData) → IsDistinct (eq_by_cmp tuple_cmp) us → ((t : TupleData) → Contains us t → Contains ts t) → length us ≤ length ts
+no_more ts us d within =
+    length-le_from_is_member (eq_by_cmp_equiv tuple_cmp_total) us ts d
+    (λ t h. list_any-from_Contains (eq_by_cmp_equiv tuple_cmp_total) t ts (within t (Contains-from_any tied t us h)))
+
+pub limit_exact : LimitIsExact
+limit_exact root ts limit l m few =
+    omega (arith, m.more, no_more ts m.tuples m.distinct (λ t c. (l.exact t).1 (All-contains (InLevel root) m.tuples t m.within c)), few)
+
+-- ---- identity cuts
+own_image : (a set x : ℕ) → x / 2 ≡ a / 2 → image (cut a set) x ≡ x ∷ []
+own_image a set x e = ap (λ (b : Bool). cond b (x ∷ []) (cond (in_set set (inverse_letter x)) (inverse_letter a ∷ []) [] ++ x ∷ cond (in_set set x) (a ∷ []) [])) (eq-eqb (x / 2) (a / 2) e)
+
+other_image : (a set x : ℕ) → x / 2 ≢ a / 2 → in_set set (inverse_letter x) ≡ false → in_set set x ≡ false → image (cut a set) x ≡ x ∷ []
+other_image a set x n h k =
+    ap (λ (b : Bool). cond b (x ∷ []) (cond (in_set set (inverse_letter x)) (inverse_letter a ∷ []) [] ++ x ∷ cond (in_set set x) (a ∷ []) [])) (ne_eqb (x / 2) (a / 2) n)
+    ∙ ap (λ (b : Bool). cond b (inverse_letter a ∷ []) [] ++ x ∷ cond (in_set set x) (a ∷ []) []) h
+    ∙ ap (λ (b : Bool). x ∷ cond b (a ∷ []) []) k
+
+not_alone : (a x : ℕ) → x ≢ a → in_set (2 ^ a) x ≡ false
+not_alone a x n = ap (λ b. b == 1) (bit_at-pow_other a x n)
+
+identity_image : (a x : ℕ) → image (cut a (2 ^ a)) x ≡ x ∷ []
+identity_image a x = elim (cases_eq (x / 2) (a / 2)) [
+  | inl e ↦ own_image a (2 ^ a) x e
+  | inr n ↦ other_image a (2 ^ a) x n
+      (not_alone a (inverse_letter x) (λ e. n (sym (inverse_generator x) ∙ ap (λ y. y / 2) e)))
+      (not_alone a x (λ e. n (ap (λ y. y / 2) e)))
+]
+
+identity_word : (a : ℕ) (w : List ℕ) → substitute (cut a (2 ^ a)) w ≡ w
+identity_word a [] = refl
+identity_word a (x ∷ w) = ap (λ u. u ++ substitute (cut a (2 ^ a)) w) (identity_image a x) ∙ ap (λ u. x ∷ u) (identity_word a w)
+
+identity_words : (a : ℕ) (ws : List (List ℕ)) → All (λ w. cyclic_word w ≡ w) ws → map (λ w. cyclic_word (substitute (cut a (2 ^ a)) w)) ws ≡ ws
+identity_words a [] c = refl
+identity_words a (w ∷ ws) c =
+    ap (λ v. v ∷ map (λ w. cyclic_word (substitute (cut a (2 ^ a)) w)) ws) (ap cyclic_word (identity_word a w) ∙ All-head (λ v. cyclic_word v ≡ v) w ws c)
+    ∙ ap (λ vs. w ∷ vs) (identity_words a ws (All-tail (λ v. cyclic_word v ≡ v) w ws c))
+
+identity_kind : (k : Kind) (t : TupleData) → IsTuple t → IsIdentityCut k → map (λ w. cyclic_word (substitute k w)) t.words ≡ t.words
+identity_kind (swap j) t is h = absurd h
+identity_kind (invert j) t is h = absurd h
+identity_kind (cut a set) t is h = ap (λ (s : ℕ). map (λ w. cyclic_word (substitute (cut a s) w)) t.words) h ∙ identity_words a t.words is.cyclic
+
+-- An identity cut leaves a tuple as it is.
+pub identity_acts : (t : TupleData) (m : Move) → IsTuple t → IsIdentityCut m.kind → act t m ≡ t
+identity_acts t m is h = ap (λ (ws : List (List ℕ)). record { rank = t.rank; words = ws }) (identity_kind m.kind t is h)
+
+identity_or_not : (k : Kind) → IsIdentityCut k ⊎ ¬ (IsIdentityCut k)
+identity_or_not (swap j) = inr (λ h. h)
+identity_or_not (invert j) = inr (λ h. h)
+identity_or_not (cut a set) = cases_eq set (2 ^ a)
+
+-- ---- lists of moves that keep the length
+pub kept_from_reaches : {t u : TupleData} {ms : List Move} → Reaches t ms u → KeepsLength t ms × (act_all t ms ≡ u)
+kept_from_reaches here = (kept_done, refl)
+kept_from_reaches (step l r) =
+    let rest = kept_from_reaches r in
+    (kept_step l.valid l.rank l.kept rest.0, rest.1)
+
+pub in_level_from_kept : {t : TupleData} {ms : List Move} → IsTuple t → KeepsLength t ms → InLevel t (act_all t ms)
+in_level_from_kept is kept_done = ([], here)
+in_level_from_kept {t} is (kept_step {m = m} {ms = ms} valid rank kept rest) =
+    let more : InLevel (act t m) (act_all (act t m) ms) = in_level_from_kept (act_tuple t m is valid (sym rank) (omega (arith, kept, is.short))) rest in
+    elim (identity_or_not m.kind) [
+      | inl h ↦ (more.0, subst (λ (s : TupleData). Reaches s more.0 (act_all (act t m) ms)) (identity_acts t m is h) more.1)
+      | inr n ↦ (m ∷ more.0, step (record { valid = valid; rank = rank; kept = kept; moves = n }) more.1)
+    ]
+
+pub level_reached : LevelIsWhatIsReached
+level_reached root ts t is l = (
+  λ c.
+      let r : InLevel root t = (l.exact t).0 c in
+      let both : KeepsLength root r.0 × (act_all root r.0 ≡ t) = kept_from_reaches r.1 in
+      record { moves = r.0; keeps = both.0; leads = both.1 },
+  λ r. (l.exact t).1 (subst (InLevel root) r.leads (in_level_from_kept is r.keeps)),
+)

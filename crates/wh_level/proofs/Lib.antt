@@ -1,0 +1,13 @@
+pub mod Places
+pub mod Shortlex
+pub mod Walks
+pub mod LawProofs
+pub mod Cells
+pub mod Stops
+pub mod SearchEnds
+pub mod Entries
+pub mod Expanding
+pub mod Placings
+pub mod Rooms
+pub mod FirstParents
+pub mod Absent

@@ -1,0 +1,151 @@
+-- Walks in their order: by length, and then move by move.
+use Rattle.std.proofs.Common.{◌≡◌, ℕ, ◌+◌, ◌<◌, ◌≤◌, false, List, [], ◌∷◌, ◌++◌, length, refl, sym, ap, ◌∙◌, subst, arith}
+use Rattle.std.proofs.lemmas.Bool.{true≢false}
+use Rattle.std.proofs.lemmas.Cmp.{upto, tied_itself, ranked}
+use Rattle.std.proofs.lemmas.List.{length_push}
+use Rattle.std.specs.Cmp.{IsTotalOrder, on_total, then_total, nat_cmp_total}
+use Rattle.std.specs.Cmp.Lexicographic.{slice_cmp, nat_list_cmp_total, lists_total}
+use Rattle.std.specs.FinMap.{nat_cmp-IsAntisymmetric, slice_cmp-IsAntisymmetric}
+use Rattle.std.specs.Ordering.{is_lt, is_gt, nat_cmp, ordering_then, MatchOrdering}
+use Rattle.std.specs.declared.cmp.Ordering.{Ordering}
+use Rattle.std.specs.declared.cmp.Ordering.TheVariants.{Less, Equal, Greater}
+use Rattle.wh_words.specs.Moves.{Kind, Move, kind_cmp, move_cmp}
+use Rattle.wh_words.specs.Moves.Kind.{swap, invert, cut}
+use Rattle.wh_level.specs.Searches.{walk_cmp, NoLater, Earlier}
+
+-- ---- the order of moves is total
+then_nothing : (o : Ordering) → ordering_then o Equal ≡ o
+then_nothing Less = refl
+then_nothing Equal = refl
+then_nothing Greater = refl
+
+then_assoc : (a b c : Ordering) → ordering_then a (ordering_then b c) ≡ ordering_then (ordering_then a b) c
+then_assoc Less b c = refl
+then_assoc Equal b c = refl
+then_assoc Greater b c = refl
+
+kind_code : Kind → List ℕ
+kind_code (swap k) = 0 ∷ k ∷ []
+kind_code (invert k) = 1 ∷ k ∷ []
+kind_code (cut a set) = 2 ∷ a ∷ set ∷ []
+
+coded_kinds : (k l : Kind) → slice_cmp nat_cmp (kind_code k) (kind_code l) ≡ kind_cmp k l
+unfolding kind_code
+coded_kinds (swap j) (swap k) = then_nothing (nat_cmp j k)
+coded_kinds (swap j) (invert k) = refl
+coded_kinds (swap j) (cut b t) = refl
+coded_kinds (invert j) (swap k) = refl
+coded_kinds (invert j) (invert k) = then_nothing (nat_cmp j k)
+coded_kinds (invert j) (cut b t) = refl
+coded_kinds (cut a s) (swap k) = refl
+coded_kinds (cut a s) (invert k) = refl
+coded_kinds (cut a s) (cut b t) = ap (ordering_then (nat_cmp a b)) (then_nothing (nat_cmp s t))
+
+pub kind_cmp_total : IsTotalOrder kind_cmp
+kind_cmp_total = subst (λ (R : Kind → Kind → Ordering). IsTotalOrder R) (λ i k l. coded_kinds k l i) (on_total kind_code nat_list_cmp_total)
+
+pub move_cmp_total : IsTotalOrder move_cmp
+move_cmp_total = then_total (on_total (λ (m : Move). m.rank) nat_cmp_total) (on_total (λ (m : Move). m.kind) kind_cmp_total)
+
+pub walk_cmp_total : IsTotalOrder walk_cmp
+walk_cmp_total = then_total (on_total (λ (p : List Move). length p) nat_cmp_total) (lists_total move_cmp_total)
+
+then_equal : (o p : Ordering) → ordering_then o p ≡ Equal → (o ≡ Equal) × (p ≡ Equal)
+then_equal Less p e = absurd (true≢false (ap is_lt e))
+then_equal Equal p e = (refl, e)
+then_equal Greater p e = absurd (true≢false (ap is_gt e))
+
+same_kind : (k l : Kind) → kind_cmp k l ≡ Equal → k ≡ l
+same_kind (swap j) (swap k) e = ap swap (nat_cmp-IsAntisymmetric j k e)
+same_kind (swap j) (invert k) e = absurd (true≢false (ap is_lt e))
+same_kind (swap j) (cut b t) e = absurd (true≢false (ap is_lt e))
+same_kind (invert j) (swap k) e = absurd (true≢false (ap is_gt e))
+same_kind (invert j) (invert k) e = ap invert (nat_cmp-IsAntisymmetric j k e)
+same_kind (invert j) (cut b t) e = absurd (true≢false (ap is_lt e))
+same_kind (cut a s) (swap k) e = absurd (true≢false (ap is_gt e))
+same_kind (cut a s) (invert k) e = absurd (true≢false (ap is_gt e))
+same_kind (cut a s) (cut b t) e =
+    let both : (nat_cmp a b ≡ Equal) × (nat_cmp s t ≡ Equal) = then_equal (nat_cmp a b) (nat_cmp s t) e in
+    ap (λ x. cut x s) (nat_cmp-IsAntisymmetric a b both.0) ∙ ap (cut b) (nat_cmp-IsAntisymmetric s t both.1)
+
+pub same_move : (m n : Move) → move_cmp m n ≡ Equal → m ≡ n
+same_move m n e =
+    let both : (nat_cmp m.rank n.rank ≡ Equal) × (kind_cmp m.kind n.kind ≡ Equal) = then_equal (nat_cmp m.rank n.rank) (kind_cmp m.kind n.kind) e in
+    ap (λ (r : ℕ). record { rank = r; kind = m.kind }) (nat_cmp-IsAntisymmetric m.rank n.rank both.0)
+    ∙ ap (λ (k : Kind). record { rank = n.rank; kind = k }) (same_kind m.kind n.kind both.1)
+
+pub same_moves : (p q : List Move) → slice_cmp move_cmp p q ≡ Equal → p ≡ q
+same_moves = slice_cmp-IsAntisymmetric same_move
+
+-- ---- one move more
+pushed_moves : (p q : List Move) (m n : Move) → length p ≡ length q → slice_cmp move_cmp (p ++ m ∷ []) (q ++ n ∷ []) ≡ ordering_then (slice_cmp move_cmp p q) (move_cmp m n)
+pushed_moves [] [] m n e = then_nothing (move_cmp m n)
+pushed_moves [] (y ∷ q) m n e = absurd (omega arith)
+pushed_moves (x ∷ p) [] m n e = absurd (omega arith)
+pushed_moves (x ∷ p) (y ∷ q) m n e = ap (ordering_then (move_cmp x y)) (pushed_moves p q m n (omega arith)) ∙ then_assoc (move_cmp x y) (slice_cmp move_cmp p q) (move_cmp m n)
+
+pushed_lengths : (p q : List Move) (m n : Move) → nat_cmp (length (p ++ m ∷ [])) (length (q ++ n ∷ [])) ≡ nat_cmp (length p) (length q)
+pushed_lengths p q m n = ap (λ a. nat_cmp a (length (q ++ n ∷ []))) (length_push p m) ∙ ap (nat_cmp (length p + 1)) (length_push q n) ∙ one_more (length p) (length q)
+  where
+    one_more : (a b : ℕ) → nat_cmp (a + 1) (b + 1) ≡ nat_cmp a b
+    one_more a b = grind arith
+
+pub pushed : (p q : List Move) (m n : Move) → walk_cmp (p ++ m ∷ []) (q ++ n ∷ []) ≡ ordering_then (walk_cmp p q) (move_cmp m n)
+pushed p q m n = by (nat_cmp (length p) (length q)) refl
+  where
+    tail : Ordering
+    tail = slice_cmp move_cmp (p ++ m ∷ []) (q ++ n ∷ [])
+
+    whole : (o : Ordering) → nat_cmp (length p) (length q) ≡ o → ordering_then o tail ≡ ordering_then (ordering_then o (slice_cmp move_cmp p q)) (move_cmp m n)
+    whole Less e = refl
+    whole Equal e = pushed_moves p q m n (nat_cmp-IsAntisymmetric (length p) (length q) e)
+    whole Greater e = refl
+
+    by : (o : Ordering) → nat_cmp (length p) (length q) ≡ o → walk_cmp (p ++ m ∷ []) (q ++ n ∷ []) ≡ ordering_then (walk_cmp p q) (move_cmp m n)
+    by o e = ap (λ x. ordering_then x tail) (pushed_lengths p q m n) ∙ whole (nat_cmp (length p) (length q)) refl
+
+-- ---- no later
+pub no_later_itself : (p : List Move) → NoLater p p
+no_later_itself p = record { holds = ap is_gt (tied_itself walk_cmp_total p) }
+
+pub no_later_from : {p q r : List Move} → NoLater p q → NoLater q r → NoLater p r
+no_later_from {p} {q} {r} h k = record { holds = upto walk_cmp_total p q r h.holds k.holds }
+
+pub no_later_when_earlier : {p q : List Move} → Earlier p q → NoLater p q
+no_later_when_earlier h = record { holds = ap is_gt h.holds }
+
+then_no_later : (o p : Ordering) → is_gt o ≡ false → is_gt p ≡ false → is_gt (ordering_then o p) ≡ false
+then_no_later Less p h k = refl
+then_no_later Equal p h k = k
+then_no_later Greater p h k = h
+
+pub no_later_pushed : {p q : List Move} (m : Move) → NoLater p q → NoLater (p ++ m ∷ []) (q ++ m ∷ [])
+no_later_pushed {p} {q} m h = record { holds = ap is_gt (pushed p q m m) ∙ then_no_later (walk_cmp p q) (move_cmp m m) h.holds (ap is_gt (tied_itself move_cmp_total m)) }
+
+-- ---- earlier
+pub earlier_from : {p q r : List Move} → Earlier p q → Earlier q r → Earlier p r
+earlier_from {p} {q} {r} h k = record { holds = walk_cmp_total.trans p q r h.holds k.holds }
+
+pub earlier_pushed : {p q : List Move} (m n : Move) → Earlier p q → Earlier (p ++ m ∷ []) (q ++ n ∷ [])
+earlier_pushed {p} {q} m n h = record { holds = pushed p q m n ∙ ap (λ o. ordering_then o (move_cmp m n)) h.holds }
+
+pub earlier_by_move : (p : List Move) (m n : Move) → move_cmp m n ≡ Less → Earlier (p ++ m ∷ []) (p ++ n ∷ [])
+earlier_by_move p m n h = record { holds = pushed p p m n ∙ ap (λ o. ordering_then o (move_cmp m n)) (tied_itself walk_cmp_total p) ∙ h }
+
+less_when_below : (a b : ℕ) → a < b → nat_cmp a b ≡ Less
+less_when_below a b h = grind arith
+
+pub earlier_when_shorter : (p q : List Move) → length p < length q → Earlier p q
+earlier_when_shorter p q h = record { holds = ap (λ o. ordering_then o (slice_cmp move_cmp p q)) (less_when_below (length p) (length q) h) }
+
+-- ---- what it says
+not_longer : (o p : Ordering) (a b : ℕ) → MatchOrdering o (a < b) (a ≡ b) (b < a) → is_gt (ordering_then o p) ≡ false → a ≤ b
+not_longer Less p a b h k = omega (arith, h)
+not_longer Equal p a b h k = omega (arith, h)
+not_longer Greater p a b h k = absurd (true≢false k)
+
+pub no_later_length : {p q : List Move} → NoLater p q → length p ≤ length q
+no_later_length {p} {q} h = not_longer (nat_cmp (length p) (length q)) (slice_cmp move_cmp p q) (length p) (length q) (ranked (length p) (length q) (nat_cmp (length p) (length q)) refl) h.holds
+
+pub no_later_moves : {p q : List Move} → NoLater p q → length q ≡ length p → is_gt (slice_cmp move_cmp p q) ≡ false
+no_later_moves {p} {q} h e = ap is_gt (sym (ap (λ o. ordering_then o (slice_cmp move_cmp p q)) (ap (nat_cmp (length p)) e ∙ tied_itself nat_cmp_total (length p)))) ∙ h.holds

@@ -1,0 +1,33 @@
+-- What a level is, as statements that contracts name, after Lyndon and Schupp, I.4.
+use Rattle.std.specs.Prelude.{◌≡◌, ℕ, ◌≤◌, List, [], ◌∷◌, length, Contains, ◌↔◌}
+use Rattle.wh_words.specs.Tuples.{TupleData, IsTuple, tuple_length}
+use Rattle.wh_words.specs.Moves.{Move, IsMove}
+use Rattle.wh_words.specs.Action.{act, act_all}
+use Rattle.wh_words.specs.Levels.{IsLevel, IsFirstWalk, HasMoreThan}
+
+-- Each move of the list is one of the rank and keeps the length of the tuple that it acts on. Identity cuts may be among them.
+pub data KeepsLength : TupleData → List Move → Type 0 where
+  done : {t : TupleData} → KeepsLength t []
+  step : {t : TupleData} {m : Move} {ms : List Move} → IsMove m → m.rank ≡ t.rank → tuple_length (act t m) ≡ tuple_length t → KeepsLength (act t m) ms → KeepsLength t (m ∷ ms)
+
+-- Some list of moves that keep the length leads from one tuple to the other.
+pub record IsReached (root t : TupleData) : Type 0 where
+  pub moves : List Move
+  pub keeps : KeepsLength root moves
+  pub leads : act_all root moves ≡ t
+
+-- A level has every tuple that some list of moves that keep the length leads to from its root, and nothing else.
+abbrev pub LevelIsWhatIsReached : Type 0
+LevelIsWhatIsReached = (root : TupleData) (ts : List TupleData) (t : TupleData) → IsTuple root → IsLevel root ts → Contains ts t ↔ IsReached root t
+
+-- A root has one level.
+abbrev pub LevelIsUnique : Type 0
+LevelIsUnique = (root : TupleData) (ts us : List TupleData) → IsLevel root ts → IsLevel root us → ts ≡ us
+
+-- A level with at most so many tuples hasn't more.
+abbrev pub LimitIsExact : Type 0
+LimitIsExact = (root : TupleData) (ts : List TupleData) (limit : ℕ) → IsLevel root ts → HasMoreThan root limit → ¬ (length ts ≤ limit)
+
+-- There is one first walk from a root to a tuple.
+abbrev pub FirstWalkIsUnique : Type 0
+FirstWalkIsUnique = (root t : TupleData) (ms ns : List Move) → IsFirstWalk root t ms → IsFirstWalk root t ns → ms ≡ ns

@@ -1,0 +1,5 @@
+pub mod Trees
+pub mod Sealings
+pub mod Laws
+pub mod Searches
+pub mod PlacedTuples

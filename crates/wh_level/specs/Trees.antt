@@ -1,0 +1,39 @@
+-- The tree of first walks of a level: each tuple but the root has a parent and a move that leads from it.
+use Rattle.std.specs.Prelude.{◌≡◌, ℕ, ◌<◌, ◌≤◌, List, [], ◌∷◌, length, reverse, Option, Some, None, slice_get, ◌↔◌}
+use Rattle.wh_words.specs.Tuples.{TupleData}
+use Rattle.wh_words.specs.Moves.{Move}
+use Rattle.wh_words.specs.Levels.{IsLevel, IsFirstWalk}
+
+-- For each tuple of a level, by its place, the place of its parent and the move that leads from there.
+abbrev pub Parents : Type 0
+Parents = List (Option (ℕ × Move))
+
+-- The parents lead from a place back to the root by these moves, the last one first.
+pub data LeadsBack (parents : Parents) : ℕ → List Move → Type 0 where
+  root : {v : ℕ} → slice_get parents v ≡ Some None → LeadsBack parents v []
+  step : {v p : ℕ} {m : Move} {ms : List Move} → slice_get parents v ≡ Some (Some (p, m)) → LeadsBack parents p ms → LeadsBack parents v (m ∷ ms)
+
+-- The parents lead from the place of a tuple back to the root on its first walk, which is shorter than the level.
+pub record IsWalkedTo (root : TupleData) (parents : Parents) (v : ℕ) (t : TupleData) : Type 0 where
+  pub back : List Move
+  pub leads : LeadsBack parents v back
+  pub first : IsFirstWalk root t (reverse back)
+  pub short : length back < length parents
+
+-- The parents are those of the level: from each place they lead back to the root, which alone has none, on the first walk.
+pub record AreParents (root : TupleData) (ts : List TupleData) (parents : Parents) : Type 0 where
+  pub count : length parents ≡ length ts
+  pub walks : (v : ℕ) (t : TupleData) → slice_get ts v ≡ Some t → IsWalkedTo root parents v t
+  pub none : (v : ℕ) (t : TupleData) → slice_get ts v ≡ Some t → (slice_get parents v ≡ Some None) ↔ (t ≡ root)
+
+-- A level as contracts see it: its root, its tuples in order, and their parents.
+pub record LevelData : Type 0 where
+  pub root : TupleData
+  pub tuples : List TupleData
+  pub parents : Parents
+
+-- The tuples are the level of the root, whose rank is at most 6, and the parents are theirs.
+pub record IsClosed (l : LevelData) : Type 0 where
+  pub rank : l.root.rank ≤ 6
+  pub level : IsLevel l.root l.tuples
+  pub parents : AreParents l.root l.tuples l.parents

@@ -1,0 +1,9 @@
+//! The tree of a level, for itself.
+use wh_moves::Move;
+use wh_words::List;
+
+/// The tree of a level: for each tuple, by its place, the place of its parent and the move that leads from it.
+#[derive(Drop)]
+pub struct Tree {
+    pub parent: List<Option<(usize, Move)>>,
+}

@@ -1,0 +1,52 @@
+//! Sealing: rows are a whole level, or miss some tuples.
+ghost use Rattle.std.specs.Prelude.{◌≡◌, ◌≤◌, map, IfOk};
+ghost use Rattle.std.specs.List.{All};
+ghost use Rattle.wh_words.specs.Levels.{InLevel};
+ghost use Rattle.wh_expand.specs.Rows.{IsRow, row_tuple};
+ghost use Rattle.wh_level.specs.Sealings.{Seals};
+ghost use Rattle.wh_level.specs.PlacedTuples.{HasRoomsFor};
+
+use crate::level::Level;
+use crate::missing::missing;
+use crate::placing::placed;
+use crate::search::first_parents;
+use std::alloc::Global;
+use wh_expand::Row;
+use wh_words::{List, OutOfMemory, Tuple};
+
+/// Whether rows are a whole level.
+#[derive(Drop)]
+pub enum Sealed {
+    /// The tuples of the rows are the whole level.
+    Closed(Level),
+    /// Tuples of the level that have no row, in order and each once: the root, and images of tuples that have one.
+    Missing(List<Tuple>),
+}
+
+/// A tuple without words, with rooms for every tuple of the level of a root.
+fn blank(alloc: Global, root: &Tuple) -> Result<Tuple, OutOfMemory>
+    ensures { IfOk result (λ t. HasRoomsFor t root.now.plain) }
+{
+    Tuple::with_room(alloc, root.rank(), root.count(), root.length() as usize)
+}
+
+/// Whether rows are the whole level of a root of rank 6 at most, or which of its images they miss. Each row has the level
+/// moves of its tuple, which is in the level of the root. `Closed` comes exactly where the tuples of the rows are the
+/// whole level (Lyndon and Schupp, I.4).
+pub fn seal(alloc: Global, root: &Tuple, rows: &[Row]) -> Result<Sealed, OutOfMemory>
+    requires rank { root.now.plain.rank ≤ 6 }
+    requires rows { All IsRow rows.now }
+    requires within { All (λ r. InLevel root.now.plain (row_tuple r)) rows.now }
+    ensures { IfOk result (Seals root.now.plain (map row_tuple rows.now)) }
+{
+    let places = placed(alloc, rows)?;
+    let mut image = blank(alloc, root)?;
+    match first_parents(alloc, root, rows, &places, &mut image)? {
+        Some(parents) => Ok(Sealed::Closed(Level {
+            root: root.copy(alloc)?,
+            tuples: places.copies(alloc)?,
+            parents,
+        })),
+        None => Ok(Sealed::Missing(missing(alloc, root, rows, &places, &mut image)?)),
+    }
+}
