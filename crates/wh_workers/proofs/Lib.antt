@@ -1,0 +1,4 @@
+pub mod KnownLists
+pub mod Meetings
+pub mod Wholes
+pub mod Exploring

@@ -1,0 +1,9 @@
+//! Exploring the level of a root.
+#![tactic(auto)]
+
+mod explored;
+mod known;
+mod one_thread;
+
+pub use explored::Explored;
+pub use one_thread::explore_one;

@@ -1,0 +1,83 @@
+//! Exploring a level on one thread.
+ghost use Rattle.std.specs.Prelude.{◌≡◌, ℕ, ◌≤◌, length, map, IfOk, OnOk};
+ghost use Rattle.std.specs.List.{All};
+ghost use Rattle.wh_words.specs.Tuples.{tuple_length};
+ghost use Rattle.wh_words.specs.Levels.{InLevel};
+ghost use Rattle.wh_expand.specs.Rows.{IsRow, row_tuple};
+ghost use Rattle.wh_workers.specs.Explorations.{Explores, CountsTuples, HasRoomFor, HasMetImages, IsWhole};
+
+use crate::explored::Explored;
+use crate::known::KnownTuples;
+use std::alloc::Global;
+use std::sync::ledger::Ledger;
+use wh_expand::{Row, level_moves};
+use wh_level::{Sealed, seal};
+use wh_moves::act_into;
+use wh_words::{OutOfMemory, Steps, Tuple};
+
+/// Meets the images of a tuple under its level moves, unless more tuples than the limit are known before the last.
+#[tactic(auto, using(crate::proofs::Meetings::move_rank, crate::proofs::Meetings::move_fits, crate::proofs::Meetings::meeting_start, crate::proofs::Meetings::meeting_more, crate::proofs::Meetings::meeting_past, crate::proofs::Meetings::meeting_end))]
+fn meet_images(
+    alloc: Global,
+    row: &Row,
+    limit: u32,
+    known: &mut KnownTuples,
+    scratch: &mut Tuple,
+) -> Result<(), OutOfMemory>
+    requires row { IsRow row.now }
+    requires room { HasRoomFor scratch.old (row_tuple row.now) }
+    ensures met { OnOk result (HasMetImages (row_tuple row.now) limit known.old known.new) }
+    ensures room { HasRoomFor scratch.new (row_tuple row.now) }
+{
+    for m in row.moves.items() {
+        act_into(&row.tuple, m, scratch);
+        known.meet(alloc, scratch)?;
+        if known.exceeds(limit) {
+            return Ok(());
+        }
+    }
+    Ok(())
+}
+
+/// The level whose rows these are.
+#[tactic(auto, using(crate::proofs::Wholes::whole_within, crate::proofs::Wholes::nothing_missed, crate::proofs::Wholes::whole_count))]
+fn closed(alloc: Global, root: &Tuple, rows: &[Row]) -> Result<Explored, OutOfMemory>
+    requires rank { root.now.plain.rank ≤ 6 }
+    requires rows { All IsRow rows.now }
+    requires whole { IsWhole root.now.plain (map row_tuple rows.now) }
+    ensures explored { (limit : ℕ) → length rows.now ≤ limit → IfOk result (Explores root.now.plain limit) }
+    ensures count { IfOk result (CountsTuples 0 (length rows.now)) }
+{
+    match seal(alloc, root, rows)? {
+        Sealed::Closed(level) => Ok(Explored::Closed(level)),
+        Sealed::Missing(_) => unreachable!(),
+    }
+}
+
+/// The level of a root of rank 6 at most, or `Passed`, which comes exactly where it has more tuples than the limit. Each
+/// tuple is expanded once, so that a level that is answered took one step for each of its tuples (Lyndon and Schupp, I.4).
+pub fn explore_one<L: Ledger>(
+    alloc: Global,
+    root: &Tuple,
+    limit: u32,
+    steps: &mut Steps<L>,
+) -> Result<Explored, OutOfMemory>
+    requires { root.now.plain.rank ≤ 6 }
+    ensures explored { IfOk result (Explores root.now.plain limit) }
+    ensures steps { IfOk result (CountsTuples steps.old steps.new) }
+{
+    let mut known = KnownTuples::new(alloc);
+    known.meet(alloc, root)?;
+    let mut scratch = Tuple::with_room(alloc, root.rank(), root.count(), root.length() as usize)?;
+    let mut rows = Vec::new(alloc);
+    'expand: while rows.len() < known.len() {
+        if known.exceeds(limit) {
+            return Ok(Explored::Passed);
+        }
+        let row = level_moves(alloc, known.tuple(rows.len()), steps)?;
+        meet_images(alloc, &row, limit, &mut known, &mut scratch)?;
+        rows.push(row)?;
+    }
+    drop(known);
+    closed(alloc, root, &rows)
+}
