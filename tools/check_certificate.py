@@ -1,37 +1,81 @@
 #!/usr/bin/env python3
-"""Checks an answer of `whitehead reduce`, and shares nothing with the program.
+"""Checks an answer of `whitehead reduce` or `whitehead decide`, and shares nothing with the program.
 
 It reads the answer on standard input and writes one line:
 
-    valid                   every rule holds
-    invalid line L RULE     line L is the first that breaks a rule, and RULE is the first it breaks
-    refused line L          line L doesn't continue such an answer (L is the place past the end where lines are missing)
+    valid                           every rule holds
+    invalid line L RULE             line L is the first that breaks a rule, and RULE is the first it breaks
+    refused line L                  line L doesn't continue such an answer (L is the place past the end where lines are
+                                    missing)
+    refused no-certificate line L   line L is the heading of another command, or an undecided verdict, which has nothing
+                                    to check
+    refused level-rank N            the answer is one of `decide`, and its rank N is greater than 6
 
-The exit status is 0, 1 or 2. The rules are these.
+The exit status is 0, 1 or 2. The rules are these, and each is broken where its sentence holds.
 
-    long    some tuple on the way of the trace has more than 4,096 letters
-    end     the trace doesn't take the tuple to the end
-    flow    the letter isn't this line's generator, the value isn't its degree in the Whitehead graph of the end, or the
-            pairs are no flow of that value from the letter to its inverse
+In the lines of a tuple that is reduced, and in those of both tuples of a no:
 
-So a valid answer shows that the moves take the tuple to the end, and that no cut shortens the end.
+    long      Some tuple on the way of the trace has more than 4,096 letters.
+    end       The trace doesn't take the tuple to the end.
+    length    The ends are equally long although the verdict is `no length`, or they aren't although it is `no level`;
+              this is told in the line of the second end.
+    flow      The letter isn't this line's generator, the value isn't its degree in the Whitehead graph of the end, or
+              the pairs are no flow of that value from the letter to its inverse.
+
+In the line `moves` of a yes:
+
+    long      Some tuple on the way from the first tuple has more than 4,096 letters.
+    moves     The moves don't take the first tuple to the second.
+
+In the line `level`:
+
+    root      The first end stands in no `at` line.
+
+In an `at` line:
+
+    sorted    Its tuple isn't greater than that of the `at` line before.
+    height    Its tuple isn't as long as the first end.
+    absent    Its tuple is the second end.
+    closed    Some swap, inversion or cut takes its tuple to one that is as long and stands in no `at` line.
+
+So a valid trace takes a tuple to its end, and flows show that no cut shortens the end. A valid yes carries the first
+tuple onto the second. A valid level shows that moves which keep the length never take the first end to the second.
 
 Letters are numbers here: generator g (from 0) is 2 g and its inverse 2 g + 1, so that x ^ 1 is the inverse of x.
 """
 
+import itertools
 import sys
 
+GREATEST_LEVEL_RANK = 6
+MOST_TUPLES = 131072
 MOST_LETTERS = 4096
 MOST_WORDS = 64
 MOST_VALUE = 2**32 - 1
 
 
 class Refused(Exception):
-    """The text isn't an answer; `line` is the first line that doesn't continue one."""
+    """The text isn't an answer that can be checked, since this line doesn't continue one; `cause` tells so."""
 
     def __init__(self, line):
         super().__init__(line)
-        self.line = line
+        self.cause = f"line {line}"
+
+
+class NoCertificate(Refused):
+    """This line tells that the answer is of a kind that has nothing to check."""
+
+    def __init__(self, line):
+        super().__init__(line)
+        self.cause = f"no-certificate line {line}"
+
+
+class LevelRank(Refused):
+    """An answer of `decide` has this rank, which is too great."""
+
+    def __init__(self, rank):
+        super().__init__(rank)
+        self.cause = f"level-rank {rank}"
 
 
 class Broken(Exception):
@@ -60,12 +104,20 @@ def freely_reduced(word):
     return kept
 
 
-def cyclic_word(word):
-    """The first rotation of the cyclic reduction."""
+def cyclically_reduced(word):
     word = freely_reduced(word)
     while len(word) > 1 and word[0] == inverse(word[-1]):
         word = word[1:-1]
+    return word
+
+
+def first_rotation(word):
     return min((word[k:] + word[:k] for k in range(len(word))), default=[])
+
+
+def cyclic_word(word):
+    """The first rotation of the cyclic reduction."""
+    return first_rotation(cyclically_reduced(word))
 
 
 def image(move, x):
@@ -90,6 +142,36 @@ def act(words, move):
 
 def length(words):
     return sum(len(word) for word in words)
+
+
+def every_move(rank):
+    """All swaps, inversions and cuts of a rank."""
+    yield from (("swap", k) for k in range(1, rank))
+    yield from (("invert", k) for k in range(1, rank + 1))
+    letters = range(2 * rank)
+    for multiplier in letters:
+        others = [x for x in letters if x // 2 != multiplier // 2]
+        for size in range(len(others) + 1):
+            for chosen in itertools.combinations(others, size):
+                yield "cut", multiplier, frozenset((multiplier, *chosen))
+
+
+def every_images(rank):
+    """The words that each move of a rank takes the letters to."""
+    return [[image(move, x) for x in range(2 * rank)] for move in every_move(rank)]
+
+
+def hashed(words):
+    return tuple(tuple(word) for word in words)
+
+
+def leads_out(words, moves, level):
+    """Whether some move, given by its images, takes a tuple to one that is as long and isn't in the level."""
+    for images in moves:
+        taken = [cyclically_reduced([y for x in word for y in images[x]]) for word in words]
+        if length(taken) == length(words) and hashed(map(first_rotation, taken)) not in level:
+            return True
+    return False
 
 
 # ---- the Whitehead graph
@@ -239,14 +321,23 @@ def read_side(reader):
     return trace, end, flows
 
 
-def check_side(rank, words, side):
-    (trace_line, trace), (end_line, end), flows = side
-    for move in trace:
+def check_walk(line, words, moves):
+    """The tuple that moves take a tuple to. No tuple on the way is too long."""
+    for move in moves:
         words = act(words, move)
         if length(words) > MOST_LETTERS:
-            raise Broken(trace_line, "long")
-    if words != end:
+            raise Broken(line, "long")
+    return words
+
+
+def check_end(words, side):
+    (trace_line, trace), (end_line, end), _ = side
+    if check_walk(trace_line, words, trace) != end:
         raise Broken(end_line, "end")
+
+
+def check_flows(rank, side):
+    _, (_, end), flows = side
     graph = edges(end)
     for generator, (line, letter, value, pairs) in enumerate(flows):
         right = letter == 2 * generator and value == degree(graph, letter)
@@ -254,11 +345,114 @@ def check_side(rank, words, side):
             raise Broken(line, "flow")
 
 
+def check_side(rank, words, side):
+    check_end(words, side)
+    check_flows(rank, side)
+
+
+def check_sides(rank, first, first_side, second, second_side, one_length):
+    """The sides of a no. Whether their ends have one length is as the verdict says."""
+    check_side(rank, first, first_side)
+    check_end(second, second_side)
+    _, (_, first_end), _ = first_side
+    _, (line, second_end), _ = second_side
+    if (length(first_end) == length(second_end)) != one_length:
+        raise Broken(line, "length")
+    check_flows(rank, second_side)
+
+
+def read_level(reader):
+    line, fields = reader.next("level")
+    if len(fields) != 1:
+        raise Refused(line)
+    count = reader.number(line, fields[0], MOST_TUPLES)
+    if count == 0:
+        raise Refused(line)
+    return line, [reader.tuple("at") for _ in range(count)]
+
+
+def check_level(rank, first_side, second_side, level):
+    _, (_, first_end), _ = first_side
+    _, (_, second_end), _ = second_side
+    level_line, ats = level
+    known = {hashed(words) for _, words in ats}
+    if hashed(first_end) not in known:
+        raise Broken(level_line, "root")
+    moves = every_images(rank)
+    last = None
+    for line, words in ats:
+        if last is not None and words <= last:
+            raise Broken(line, "sorted")
+        if length(words) != length(first_end):
+            raise Broken(line, "height")
+        if words == second_end:
+            raise Broken(line, "absent")
+        if leads_out(words, moves, known):
+            raise Broken(line, "closed")
+        last = words
+
+
+def read_end(reader):
+    line, fields = reader.next("done")
+    if fields:
+        raise Refused(line)
+    reader.end()
+
+
+def check_reduced(reader):
+    _, words = reader.tuple("tuple")
+    side = read_side(reader)
+    read_end(reader)
+    check_side(reader.rank, words, side)
+
+
+def check_yes(reader, first, second):
+    line, moves = reader.moves("moves")
+    read_end(reader)
+    if check_walk(line, first, moves) != second:
+        raise Broken(line, "moves")
+
+
+def check_no_length(reader, first, second):
+    first_side = read_side(reader)
+    second_side = read_side(reader)
+    read_end(reader)
+    check_sides(reader.rank, first, first_side, second, second_side, one_length=False)
+
+
+def check_no_level(reader, first, second):
+    first_side = read_side(reader)
+    second_side = read_side(reader)
+    level = read_level(reader)
+    read_end(reader)
+    check_sides(reader.rank, first, first_side, second, second_side, one_length=True)
+    check_level(reader.rank, first_side, second_side, level)
+
+
+def check_decided(reader):
+    _, first = reader.tuple("first")
+    _, second = reader.tuple("second")
+    line, verdict = reader.next("verdict")
+    if verdict == ["yes"]:
+        check_yes(reader, first, second)
+    elif verdict == ["no", "length"]:
+        check_no_length(reader, first, second)
+    elif verdict == ["no", "level"]:
+        check_no_level(reader, first, second)
+    elif len(verdict) == 3 and verdict[0] == "undecided" and verdict[1] in ("length", "level"):
+        reader.number(line, verdict[2], MOST_VALUE)
+        raise NoCertificate(line)
+    else:
+        raise Refused(line)
+
+
 def check(data):
     """Returns where the answer is valid, and raises Refused or Broken elsewhere."""
     reader = Reader(data)
     line, heading = reader.next("whitehead")
-    if heading != ["1", "reduce"]:
+    if heading in (["1", "straighten"], ["1", "stabiliser"], ["1", "gen"]):
+        raise NoCertificate(line)
+    if heading not in (["1", "reduce"], ["1", "decide"]):
         raise Refused(line)
     line, fields = reader.next("rank")
     if len(fields) != 1:
@@ -266,20 +460,19 @@ def check(data):
     reader.rank = reader.number(line, fields[0], 26)
     if reader.rank == 0:
         raise Refused(line)
-    _, words = reader.tuple("tuple")
-    side = read_side(reader)
-    line, fields = reader.next("done")
-    if fields:
-        raise Refused(line)
-    reader.end()
-    check_side(reader.rank, words, side)
+    if heading[1] == "reduce":
+        check_reduced(reader)
+    elif reader.rank > GREATEST_LEVEL_RANK:
+        raise LevelRank(reader.rank)
+    else:
+        check_decided(reader)
 
 
 def main():
     try:
         check(sys.stdin.buffer.read())
     except Refused as refused:
-        print(f"refused line {refused.line}")
+        print(f"refused {refused.cause}")
         return 2
     except Broken as broken:
         print(f"invalid line {broken.line} {broken.rule}")

@@ -6,6 +6,8 @@ mod command_line;
 #[cfg(test)]
 mod graphs;
 #[cfg(test)]
+mod levels;
+#[cfg(test)]
 mod moves;
 #[cfg(test)]
 mod streams;

@@ -36,6 +36,8 @@ pub(crate) fn word(alloc: Global, text: &str) -> Result<Word, Fail> {
 
 /// The tuple of a problem text.
 pub(crate) fn tuple(alloc: Global, text: &str) -> Result<Tuple, Fail> {
-    let Problem::Reduce { tuple } = read_problem(alloc, Command::Reduce, text.as_bytes())?;
-    Ok(tuple)
+    match read_problem(alloc, Command::Reduce, text.as_bytes())? {
+        Problem::Reduce { tuple } => Ok(tuple),
+        Problem::Decide { .. } => Err("two tuples")?,
+    }
 }

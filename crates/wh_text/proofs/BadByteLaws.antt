@@ -1,5 +1,5 @@
 -- A refusal of a byte names the first line that has a bad one, and the leftmost in it: for the law on bad bytes.
-use Rattle.std.proofs.Common.{◌≡◌, ℕ, ◌+◌, ltb, Bool, true, false, cond, List, [], ◌∷◌, ◌++◌, length, sym, ap, ◌∙◌, refl, subst, arith, None, Some, inl, inr, Result, Ok, Err}
+use Rattle.std.proofs.Common.{◌≡◌, ℕ, ◌+◌, ◌==◌, ltb, Bool, true, false, cond, List, [], ◌∷◌, ◌++◌, length, sym, ap, ◌∙◌, refl, subst, arith, None, Some, inl, inr, Result, Ok, Err}
 use Rattle.std.specs.Prelude.{leb, ◌&&◌, codes}
 use Rattle.std.specs.declared.option.Option.{Option}
 use Rattle.std.specs.List.{All, sum_by}
@@ -15,10 +15,10 @@ use Rattle.wh_text.specs.Readings.{◌>>=◌}
 use Rattle.wh_text.specs.Numbers.{number}
 use Rattle.wh_text.specs.Spellings.{are, letter_of, letter_at, letters_at, word_at}
 use Rattle.wh_text.specs.TupleLines.{items_at, words_at, short_tuple, tuple_at}
-use Rattle.wh_text.specs.Problems.{Sheet, ProblemData, blank_sheet, most_bytes, greatest_rank, rank_at, rank_number, allowed_rank, kept_line, line_of_fields, good_line, line_at, lines_at, one_tuple, problem_with, whole, problem}
+use Rattle.wh_text.specs.Problems.{Sheet, ProblemData, blank_sheet, most_bytes, greatest_rank, rank_at, rank_number, allowed_rank, kept_line, line_of_fields, good_line, line_at, lines_at, decide, one_tuple, two_tuples, decide_both, problem_with, whole, problem}
 use Rattle.wh_text.specs.Laws.{IsClean, NamesTheFirstBadByte}
 use Rattle.wh_text.proofs.Equations.{bind_err}
-use Rattle.wh_text.proofs.TextLaws.{bad_clean}
+use Rattle.wh_text.proofs.ToldLines.{bad_clean}
 
 -- ---- what other readers refuse is no byte
 abbrev pub IsOther : ReadError → Type 0
@@ -92,8 +92,18 @@ one_other [] = tt
 one_other (t ∷ []) = tt
 one_other (t ∷ u ∷ ts) = tt
 
+two_other : (ts : List TupleData) → RefusesOther (two_tuples ts)
+two_other [] = tt
+two_other (t ∷ []) = tt
+two_other (t ∷ u ∷ []) = tt
+two_other (t ∷ u ∷ v ∷ ts) = tt
+
+both_other : (s t : TupleData) → RefusesOther (decide_both s t)
+both_other s t = cond_other (length s.words == length t.words) (Ok (decide s t)) (Err (errors.SizeMismatch (length s.words) (length t.words))) tt tt
+
 with_other : (command : Command) (ts : List TupleData) → RefusesOther (problem_with command ts)
 with_other commands.Reduce ts = bind_other (one_tuple ts) _ (one_other ts) (λ t. tt)
+with_other commands.Decide ts = bind_other (two_tuples ts) _ (two_other ts) (λ p. both_other p.0 p.1)
 
 whole_other : (command : Command) (end : ℕ) (ts : List TupleData) (o : Option ℕ) → RefusesOther (whole command end ts o)
 whole_other command end ts None = tt

@@ -12,5 +12,6 @@ pub mod WordLaws
 pub mod LineLaws
 pub mod FieldLaws
 pub mod TupleLaws
+pub mod ToldLines
 pub mod TextLaws
 pub mod BadByteLaws

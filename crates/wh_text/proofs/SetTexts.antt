@@ -4,7 +4,7 @@ use Rattle.std.proofs.lemmas.Bool.{cond-true, cond-false}
 use Rattle.std.specs.Int.{bit_at}
 use Rattle.wh_words.specs.LetterSets.{in_set}
 use Rattle.wh_text.specs.Spellings.{letter_text}
-use Rattle.wh_text.specs.AnswerTexts.{set_below}
+use Rattle.wh_text.specs.FieldTexts.{set_below}
 use Rattle.wh_text.proofs.Scanning.{eq_true, eq_false}
 
 below_suc : (set k : ℕ) → set_below set (k + 1) ≡ set_below set k ++ cond (in_set set k) (letter_text k ∷ []) []

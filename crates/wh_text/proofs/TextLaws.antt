@@ -1,332 +1,156 @@
--- A problem of `reduce` is read exactly from a text that states it: for the law on whole texts.
-use Rattle.std.proofs.Common.{◌≡◌, ℕ, ◌+◌, ◌≤◌, ltb, ◌==◌, Bool, true, false, cond, List, [], ◌∷◌, ◌++◌, length, map, sym, ap, ◌∙◌, refl, subst, arith, None, Some, inl, inr, Ok, Err, append-nil, append_assoc}
-use Rattle.std.specs.Prelude.{◌||◌, ◌&&◌, codes, decimal}
+-- A problem is read exactly from a text that states it: for the laws on whole texts.
+use Rattle.std.proofs.Common.{◌≡◌, ℕ, ◌≤◌, ltb, ◌==◌, List, [], ◌∷◌, length, sym, ap, ◌∙◌, refl, subst, arith, None, Some, Ok, Err}
 use Rattle.std.specs.declared.option.Option.{Option}
-use Rattle.std.specs.List.{All, list_all}
-use Rattle.std.proofs.lemmas.List.Elements.{All-nil, All-cons, All-head, All-tail}
-use Rattle.std.proofs.lemmas.Bool.{cases_Bool, cond-true, cond-false, cond_both, false≢true}
+use Rattle.std.proofs.lemmas.Bool.{cond-true, cond-false, eqb-true}
 use Rattle.wh_words.specs.Tuples.{TupleData}
 use Rattle.wh_text.specs.declared.command.Command.{Command}
 use Rattle.wh_text.specs.declared.command.Command.TheVariants as commands
 use Rattle.wh_text.specs.declared.read_error.ReadError.TheVariants as errors
-use Rattle.wh_text.specs.Lines.{Field, lines, is_allowed, bad_at, is_comment, joined, fields}
+use Rattle.wh_text.specs.Lines.{lines}
 use Rattle.wh_text.specs.Readings.{◌>>=◌}
-use Rattle.wh_text.specs.Spellings.{are, word_text}
-use Rattle.wh_text.specs.TupleLines.{tuple_at}
-use Rattle.wh_text.specs.Problems.{Sheet, blank_sheet, reduce, most_bytes, greatest_rank, rank_at, first_line, later_line, kept_line, line_of_fields, good_line, line_at, lines_at, one_tuple, whole, problem}
-use Rattle.wh_text.specs.Laws.{is_skipped, kept_lines, IsClean, IsRankLine, IsTupleLine, IsReduceText, ReadsReduceTexts}
-use Rattle.wh_text.proofs.Equations.{bind_ok, ok_is, unless_ok, if_ok, not_more, is_not_more, are_is, are_back, split_fields}
-use Rattle.wh_text.proofs.TupleLaws.{AreSome, fields_some, Spell, tuple_is, tuple_back, rank_within, rank_is, rank_back}
-
--- ---- a line
-pub bad_clean : (c : ℕ) (line : List ℕ) → bad_at c line ≡ None → IsClean line
-bad_clean c [] e = All-nil (λ b. is_allowed b ≡ true)
-bad_clean c (b ∷ bs) e = elim (cases_Bool (is_allowed b)) [
-  | inl t ↦ All-cons (λ b. is_allowed b ≡ true) b bs t (bad_clean (c + 1) bs (sym (cond-true (is_allowed b) (bad_at (c + 1) bs) (Some c) t) ∙ e))
-  | inr f ↦ (let no : ◌≡◌ {A = Option ℕ} (Some c) None = sym (cond-false (is_allowed b) (bad_at (c + 1) bs) (Some c) f) ∙ e in absurd (cc))
-]
-
-pub clean_bad : (c : ℕ) (line : List ℕ) → IsClean line → bad_at c line ≡ None
-clean_bad c [] h = refl
-clean_bad c (b ∷ bs) h =
-    cond-true (is_allowed b) (bad_at (c + 1) bs) (Some c) (All-head (λ b. is_allowed b ≡ true) b bs h) ∙ clean_bad (c + 1) bs (All-tail (λ b. is_allowed b ≡ true) b bs h)
-
-abbrev pub is_none : List Field → Bool
-is_none [] = true
-is_none (f ∷ fs) = false
-
-joined_none : (c b : ℕ) (fs : List Field) → is_none (joined c b fs) ≡ false
-joined_none c b [] = refl
-joined_none c b (f ∷ fs) =
-    cond_both (f.column == c + 1) (record { column = c; bytes = b ∷ f.bytes } ∷ fs) (record { column = c; bytes = b ∷ [] } ∷ f ∷ fs) (λ gs. is_none gs ≡ false) (λ _. refl) (λ _. refl)
-
-blank_by : (t u : Bool) (c b : ℕ) (fs : List Field) → u ≡ is_none fs → (t && u) ≡ is_none (cond t fs (joined c b fs))
-blank_by true u c b fs e = e
-blank_by false u c b fs e = sym (joined_none c b fs)
-
--- a line has no field exactly where all its bytes are spaces
-blank_none : (c : ℕ) (line : List ℕ) → list_all (λ b. b == 32) line ≡ is_none (fields c line)
-blank_none c [] = refl
-blank_none c (b ∷ bs) = blank_by (b == 32) (list_all (λ b. b == 32) bs) c b (fields (c + 1) bs) (blank_none (c + 1) bs)
-
-skipped_is : (line : List ℕ) → is_skipped line ≡ (is_comment line || is_none (fields 1 line))
-skipped_is line = ap (λ t. is_comment line || t) (blank_none 1 line)
-
--- a line is skipped, or its keyword and the fields after it are read
-data Told (command : Command) (l : ℕ) (s : Sheet) (line : List ℕ) (told : Sheet) : Type 0 where
-  skipped : is_skipped line ≡ true → told ≡ s → Told command l s line told
-  kept : (keyword : Field) (fs : List Field) → is_skipped line ≡ false → fields 1 line ≡ keyword ∷ fs → kept_line command l s s.rank keyword fs ≡ Ok told → Told command l s line told
-
-told_by : (command : Command) (l : ℕ) (s : Sheet) (line : List ℕ) (told : Sheet) (t : Bool) (fs : List Field) → is_skipped line ≡ (t || is_none fs) → fields 1 line ≡ fs → cond t (Ok s) (line_of_fields command l s fs) ≡ Ok told → Told command l s line told
-unfolding line_of_fields
-told_by command l s line told true fs e f h = skipped e (sym (ok_is s told h))
-told_by command l s line told false [] e f h = skipped e (sym (ok_is s told h))
-told_by command l s line told false (keyword ∷ fs) e f h = kept keyword fs e f h
-
-good_by : (command : Command) (l : ℕ) (s : Sheet) (line : List ℕ) (told : Sheet) (o : Option ℕ) → bad_at 1 line ≡ o → good_line command l s line o ≡ Ok told → IsClean line × Told command l s line told
-good_by command l s line told None e h = (bad_clean 1 line e, told_by command l s line told (is_comment line) (fields 1 line) (skipped_is line) refl h)
-good_by command l s line told (Some c) e h = absurd (cc)
-
-line_is : (command : Command) (l : ℕ) (s : Sheet) (line : List ℕ) (told : Sheet) → line_at command l s line ≡ Ok told → IsClean line × Told command l s line told
-unfolding line_at
-line_is command l s line told h = good_by command l s line told (bad_at 1 line) refl h
-
-line_by : (command : Command) (l : ℕ) (s : Sheet) (line : List ℕ) → IsClean line → line_at command l s line ≡ cond (is_comment line) (Ok s) (line_of_fields command l s (fields 1 line))
-unfolding line_at
-line_by command l s line h = ap (good_line command l s line) (clean_bad 1 line h)
-
-skip_by : (command : Command) (l : ℕ) (s : Sheet) (t : Bool) (fs : List Field) → (t || is_none fs) ≡ true → cond t (Ok s) (line_of_fields command l s fs) ≡ Ok s
-unfolding line_of_fields
-skip_by command l s true fs e = refl
-skip_by command l s false [] e = refl
-skip_by command l s false (f ∷ fs) e = absurd (false≢true e)
-
-line_skipped : (command : Command) (l : ℕ) (s : Sheet) (line : List ℕ) → IsClean line → is_skipped line ≡ true → line_at command l s line ≡ Ok s
-line_skipped command l s line h e = line_by command l s line h ∙ skip_by command l s (is_comment line) (fields 1 line) (sym (skipped_is line) ∙ e)
-
-keep_by : (command : Command) (l : ℕ) (s : Sheet) (t : Bool) (keyword : Field) (fs : List Field) → (t || false) ≡ false → cond t (Ok s) (line_of_fields command l s (keyword ∷ fs)) ≡ kept_line command l s s.rank keyword fs
-unfolding line_of_fields
-keep_by command l s true keyword fs e = absurd (false≢true (sym e))
-keep_by command l s false keyword fs e = refl
-
-line_kept : (command : Command) (l : ℕ) (s : Sheet) (line : List ℕ) (keyword : Field) (fs : List Field) → IsClean line → is_skipped line ≡ false → fields 1 line ≡ keyword ∷ fs → line_at command l s line ≡ kept_line command l s s.rank keyword fs
-line_kept command l s line keyword fs h e f =
-    line_by command l s line h ∙ ap (λ gs. cond (is_comment line) (Ok s) (line_of_fields command l s gs)) f
-    ∙ keep_by command l s (is_comment line) keyword fs (sym (ap (λ gs. is_comment line || is_none gs) f) ∙ sym (skipped_is line) ∙ e)
-
--- ---- tuple lines
--- the rank n is told, and these tuples
-abbrev pub told_sheet : ℕ → List TupleData → Sheet
-told_sheet n ts = record { rank = Some n; tuples = ts }
-
--- each of these lines tells the tuple of its place
-pub data TupleLines (n : ℕ) : List (List ℕ) → List TupleData → Type 0 where
-  none : TupleLines n [] []
-  more : (line : List ℕ) (u : TupleData) {ls : List (List ℕ)} {us : List TupleData} → IsTupleLine n line u → TupleLines n ls us → TupleLines n (line ∷ ls) (u ∷ us)
-
-spell_line : (n : ℕ) (line : List ℕ) (keyword : Field) (fs : List Field) (u : TupleData) → fields 1 line ≡ keyword ∷ fs → keyword.bytes ≡ codes "tuple" → Spell n fs u → IsTupleLine n line u
-spell_line n line keyword fs u f e s = record {
-  written = s.written;
-  spelled = ap (map (λ g. g.bytes)) f ∙ ap (λ w. w ∷ map (λ g. g.bytes) fs) e ∙ ap (λ ws. codes "tuple" ∷ ws) s.spelled;
-  of_rank = s.of_rank;
-  few = s.few;
-  short = s.short;
-  cyclic = s.cyclic;
-}
-
-rest_some : (line : List ℕ) (keyword : Field) (fs : List Field) → fields 1 line ≡ keyword ∷ fs → AreSome fs
-rest_some line keyword fs f = All-tail (λ g. g.bytes ≡ [] → ⊥) keyword fs (subst AreSome f (fields_some 1 line))
-
--- what a kept line tells where the rank is known
-later_is : (n l : ℕ) (ts : List TupleData) (line : List ℕ) (keyword : Field) (fs : List Field) (told : Sheet) → n ≤ 26 → fields 1 line ≡ keyword ∷ fs →
-    later_line n l (told_sheet n ts) keyword fs ≡ Ok told → (u : TupleData) × IsTupleLine n line u × (told ≡ told_sheet n (ts ++ u ∷ []))
-later_is n l ts line keyword fs told h f e =
-    let p = if_ok (are keyword.bytes (codes "tuple")) (errors.BadLine l) (tuple_at n l fs >>= λ t. Ok (told_sheet n (ts ++ t ∷ []))) told e in
-    let q = bind_ok (tuple_at n l fs) (λ t. Ok (told_sheet n (ts ++ t ∷ []))) told p.1 in (
-      q.0,
-      spell_line n line keyword fs q.0 f (are_is keyword.bytes (codes "tuple") p.0) (tuple_is n l fs q.0 h (rest_some line keyword fs f) q.1),
-      sym (ok_is (told_sheet n (ts ++ q.0 ∷ [])) told q.2),
-    )
-
-later_back : (command : Command) (n l : ℕ) (ts : List TupleData) (line : List ℕ) (u : TupleData) → n ≤ 26 → IsClean line → is_skipped line ≡ false → IsTupleLine n line u →
-    line_at command l (told_sheet n ts) line ≡ Ok (told_sheet n (ts ++ u ∷ []))
-later_back command n l ts line u h clean e t =
-    let p = split_fields (fields 1 line) (codes "tuple") (map word_text t.written) t.spelled in
-    line_kept command l (told_sheet n ts) line p.0 p.1 clean e p.2
-    ∙ cond-true (are p.0.bytes (codes "tuple")) (tuple_at n l p.1 >>= λ t. Ok (told_sheet n (ts ++ t ∷ []))) (Err (errors.BadLine l)) (are_back p.0.bytes (codes "tuple") p.3)
-    ∙ ap (λ r. r >>= λ t. Ok (told_sheet n (ts ++ t ∷ []))) (tuple_back n l p.1 u h (rest_some line p.0 p.1 p.2)
-    (record { written = t.written; spelled = p.4; of_rank = t.of_rank; few = t.few; short = t.short; cyclic = t.cyclic }))
-
--- what lines tell after the rank is known
-record TuplesTold (n : ℕ) (ts : List TupleData) (ls : List (List ℕ)) (s : Sheet) : Type 0 where
-  clean : All IsClean ls
-  tuples : List TupleData
-  told : TupleLines n (kept_lines ls) tuples
-  sheet : s ≡ told_sheet n (ts ++ tuples)
-
-tuples_are : (command : Command) (n l : ℕ) (ts : List TupleData) (ls : List (List ℕ)) (p : Sheet × ℕ) → n ≤ 26 → lines_at command l (told_sheet n ts) ls ≡ Ok p → TuplesTold n ts ls p.0
-unfolding lines_at
-tuples_are command n l ts [] p h e =
-    record { clean = All-nil IsClean; tuples = []; told = none; sheet = ap (λ q. q.0) (sym (ok_is (told_sheet n ts, l) p e)) ∙ ap (told_sheet n) (sym (append-nil ts)) }
-tuples_are command n l ts (line ∷ ls) p h e =
-    let q = bind_ok (line_at command l (told_sheet n ts) line) (λ t. lines_at command (l + 1) t ls) p e in
-    let told = line_is command l (told_sheet n ts) line q.0 q.1 in
-    elim told.1 [
-      | skipped k same ↦ (let r = tuples_are command n (l + 1) ts ls p h (ap (λ t. lines_at command (l + 1) t ls) (sym same) ∙ q.2) in
-          record {
-            clean = All-cons IsClean line ls told.0 r.clean;
-            tuples = r.tuples;
-            sheet = r.sheet;
-            told = subst (λ (ms : List (List ℕ)). TupleLines n ms r.tuples) (sym (cond-true (is_skipped line) (kept_lines ls) (line ∷ kept_lines ls) k)) r.told;
-          })
-      | kept keyword fs k f later ↦ (let u = later_is n l ts line keyword fs q.0 h f later in
-          let r = tuples_are command n (l + 1) (ts ++ u.0 ∷ []) ls p h (ap (λ t. lines_at command (l + 1) t ls) (sym u.2) ∙ q.2) in
-          record {
-            clean = All-cons IsClean line ls told.0 r.clean;
-            tuples = u.0 ∷ r.tuples;
-            told = subst (λ (ms : List (List ℕ)). TupleLines n ms (u.0 ∷ r.tuples)) (sym (cond-false (is_skipped line) (kept_lines ls) (line ∷ kept_lines ls) k)) (more line u.0 u.1 r.told);
-            sheet = r.sheet ∙ ap (told_sheet n) (append_assoc ts (u.0 ∷ []) r.tuples);
-          })
-    ]
-
-uncons : (n : ℕ) (line : List ℕ) (ls : List (List ℕ)) (us : List TupleData) → TupleLines n (line ∷ ls) us → (u : TupleData) × (vs : List TupleData) × (us ≡ u ∷ vs) × IsTupleLine n line u × TupleLines n ls vs
-uncons n line ls us (more _ u {us = vs} t rest) = (u, vs, refl, t, rest)
-
-tuples_back : (command : Command) (n l : ℕ) (ts : List TupleData) (ls : List (List ℕ)) (us : List TupleData) → n ≤ 26 → All IsClean ls → TupleLines n (kept_lines ls) us →
-    (end : ℕ) × (lines_at command l (told_sheet n ts) ls ≡ Ok (told_sheet n (ts ++ us), end))
-unfolding lines_at
-tuples_back command n l ts [] us h c none = (l, ap (λ vs. Ok (told_sheet n vs, l)) (sym (append-nil ts)))
-tuples_back command n l ts (line ∷ ls) us h c t =
-    let clean = All-head IsClean line ls c in
-    let others = All-tail IsClean line ls c in
-    elim (cases_Bool (is_skipped line)) [
-      | inl k ↦ (let r = tuples_back command n (l + 1) ts ls us h others (subst (λ (ms : List (List ℕ)). TupleLines n ms us) (cond-true (is_skipped line) (kept_lines ls) (line ∷ kept_lines ls) k) t) in
-          (r.0, ap (λ s. s >>= λ t. lines_at command (l + 1) t ls) (line_skipped command l (told_sheet n ts) line clean k) ∙ r.1))
-      | inr k ↦ (let q = uncons n line (kept_lines ls) us (subst (λ (ms : List (List ℕ)). TupleLines n ms us) (cond-false (is_skipped line) (kept_lines ls) (line ∷ kept_lines ls) k) t) in
-          let r = tuples_back command n (l + 1) (ts ++ q.0 ∷ []) ls q.1 h others q.4 in (
-            r.0,
-            ap (λ s. s >>= λ t. lines_at command (l + 1) t ls) (later_back command n l ts line q.0 h clean k q.3) ∙ r.1
-                ∙ ap (λ vs. Ok (told_sheet n vs, r.0)) (append_assoc ts (q.0 ∷ []) q.1 ∙ ap (λ vs. ts ++ vs) (sym q.2)),
-          ))
-    ]
-
--- ---- the rank line
-first_is : (command : Command) (l : ℕ) (line : List ℕ) (keyword : Field) (fs : List Field) (told : Sheet) → fields 1 line ≡ keyword ∷ fs →
-    first_line command l blank_sheet keyword fs ≡ Ok told → (n : ℕ) × IsRankLine n line × (1 ≤ n) × (n ≤ greatest_rank command) × (told ≡ told_sheet n [])
-first_is command l line keyword fs told f e =
-    let p = if_ok (are keyword.bytes (codes "rank")) (errors.NoRank l) (rank_at command l fs >>= λ n. Ok (told_sheet n [])) told e in
-    let q = bind_ok (rank_at command l fs) (λ n. Ok (told_sheet n [])) told p.1 in
-    let r = rank_is command l q.0 fs q.1 in (
-      q.0,
-      ap (map (λ g. g.bytes)) f ∙ ap (λ w. w ∷ map (λ g. g.bytes) fs) (are_is keyword.bytes (codes "rank") p.0) ∙ ap (λ ws. codes "rank" ∷ ws) r.0,
-      r.1,
-      r.2,
-      sym (ok_is (told_sheet q.0 []) told q.2),
-    )
-
-first_back : (command : Command) (l n : ℕ) (line : List ℕ) → IsClean line → is_skipped line ≡ false → IsRankLine n line → 1 ≤ n → n ≤ greatest_rank command → line_at command l blank_sheet line ≡ Ok (told_sheet n [])
-first_back command l n line clean e r h g =
-    let p = split_fields (fields 1 line) (codes "rank") (decimal n ∷ []) r in
-    line_kept command l blank_sheet line p.0 p.1 clean e p.2
-    ∙ cond-true (are p.0.bytes (codes "rank")) (rank_at command l p.1 >>= λ n. Ok (told_sheet n [])) (Err (errors.NoRank l)) (are_back p.0.bytes (codes "rank") p.3)
-    ∙ ap (λ r. r >>= λ n. Ok (told_sheet n [])) (rank_back command l n p.1 p.4 h g)
-
--- what all lines tell, where they tell a rank
-record RankTold (command : Command) (ls : List (List ℕ)) (s : Sheet) : Type 0 where
-  clean : All IsClean ls
-  rank : ℕ
-  rank_line : List ℕ
-  rest : List (List ℕ)
-  kept : kept_lines ls ≡ rank_line ∷ rest
-  states : IsRankLine rank rank_line
-  least : 1 ≤ rank
-  greatest : rank ≤ greatest_rank command
-  tuples : List TupleData
-  told : TupleLines rank rest tuples
-  sheet : s ≡ told_sheet rank tuples
-
-ranks_are : (command : Command) (l m : ℕ) (ls : List (List ℕ)) (p : Sheet × ℕ) → p.0.rank ≡ Some m → lines_at command l blank_sheet ls ≡ Ok p → RankTold command ls p.0
-unfolding lines_at
-ranks_are command l m [] p r e =
-    let no : ◌≡◌ {A = Option ℕ} None (Some m) = ap (λ q. q.0.rank) (ok_is (blank_sheet, l) p e) ∙ r in
-    absurd (cc)
-ranks_are command l m (line ∷ ls) p r e =
-    let q = bind_ok (line_at command l blank_sheet line) (λ t. lines_at command (l + 1) t ls) p e in
-    let told = line_is command l blank_sheet line q.0 q.1 in
-    elim told.1 [
-      | skipped k same ↦ (let u = ranks_are command (l + 1) m ls p r (ap (λ t. lines_at command (l + 1) t ls) (sym same) ∙ q.2) in
-          record {
-            clean = All-cons IsClean line ls told.0 u.clean;
-            rank = u.rank;
-            rank_line = u.rank_line;
-            rest = u.rest;
-            kept = cond-true (is_skipped line) (kept_lines ls) (line ∷ kept_lines ls) k ∙ u.kept;
-            states = u.states;
-            least = u.least;
-            greatest = u.greatest;
-            tuples = u.tuples;
-            told = u.told;
-            sheet = u.sheet;
-          })
-      | kept keyword fs k f first ↦ (let u = first_is command l line keyword fs q.0 f first in
-          let v = tuples_are command u.0 (l + 1) [] ls p (omega (arith, u.3, rank_within command)) (ap (λ t. lines_at command (l + 1) t ls) (sym u.4) ∙ q.2) in
-          record {
-            clean = All-cons IsClean line ls told.0 v.clean;
-            rank = u.0;
-            rank_line = line;
-            rest = kept_lines ls;
-            kept = cond-false (is_skipped line) (kept_lines ls) (line ∷ kept_lines ls) k;
-            states = u.1;
-            least = u.2;
-            greatest = u.3;
-            tuples = v.tuples;
-            told = v.told;
-            sheet = v.sheet;
-          })
-    ]
-
-ranks_back : (command : Command) (l n : ℕ) (ls : List (List ℕ)) (rank_line : List ℕ) (rest : List (List ℕ)) (us : List TupleData) → All IsClean ls → kept_lines ls ≡ rank_line ∷ rest →
-    IsRankLine n rank_line → 1 ≤ n → n ≤ greatest_rank command → TupleLines n rest us → (end : ℕ) × (lines_at command l blank_sheet ls ≡ Ok (told_sheet n us, end))
-unfolding lines_at
-ranks_back command l n [] rank_line rest us c e r h g t = absurd (cc)
-ranks_back command l n (line ∷ ls) rank_line rest us c e r h g t =
-    let clean = All-head IsClean line ls c in
-    let others = All-tail IsClean line ls c in
-    elim (cases_Bool (is_skipped line)) [
-      | inl k ↦ (let u = ranks_back command (l + 1) n ls rank_line rest us others (sym (cond-true (is_skipped line) (kept_lines ls) (line ∷ kept_lines ls) k) ∙ e) r h g t in
-          (u.0, ap (λ s. s >>= λ t. lines_at command (l + 1) t ls) (line_skipped command l blank_sheet line clean k) ∙ u.1))
-      | inr k ↦ (let f : line ∷ kept_lines ls ≡ rank_line ∷ rest = sym (cond-false (is_skipped line) (kept_lines ls) (line ∷ kept_lines ls) k) ∙ e in
-          let same : line ≡ rank_line = (cc) in
-          let left : kept_lines ls ≡ rest = (cc) in
-          let u = tuples_back command n (l + 1) [] ls us (omega (arith, g, rank_within command)) others (subst (λ (ms : List (List ℕ)). TupleLines n ms us) (sym left) t) in
-          (u.0, ap (λ s. s >>= λ t. lines_at command (l + 1) t ls) (first_back command l n line clean k (subst (IsRankLine n) (sym same) r) h g) ∙ u.1))
-    ]
+use Rattle.wh_text.specs.Problems.{Sheet, ProblemData, blank_sheet, reduce, decide, most_bytes, lines_at, one_tuple, two_tuples, decide_both, problem_with, whole, problem}
+use Rattle.wh_text.specs.Laws.{IsRankLine, IsTupleLine, IsReduceText, IsDecideText, ReadsReduceTexts, ReadsDecideTexts}
+use Rattle.wh_text.proofs.Equations.{bind_ok, ok_is, unless_ok, if_ok, not_more, is_not_more}
+use Rattle.wh_text.proofs.Scanning.{eq_true}
+use Rattle.wh_text.proofs.ToldLines.{TupleLines, none, more, told_sheet, LinesTell, ranks_are, ranks_back}
 
 -- ---- the whole
+whole_is : (command : Command) (end : ℕ) (ts : List TupleData) (o : Option ℕ) (p : ProblemData) → whole command end ts o ≡ Ok p → (m : ℕ) × (o ≡ Some m) × (problem_with command ts ≡ Ok p)
+whole_is command end ts None p e = absurd (cc)
+whole_is command end ts (Some m) p e = (m, refl, e)
+
+with_told : (command : Command) (n : ℕ) (us : List TupleData) (s : Sheet) (p : ProblemData) → s ≡ told_sheet n us → problem_with command s.tuples ≡ Ok p → problem_with command us ≡ Ok p
+with_told command n us s p same e = ap (λ t. problem_with command t.tuples) (sym same) ∙ e
+
+text_is : (command : Command) (bytes : List ℕ) (p : ProblemData) → problem command bytes ≡ Ok p →
+    (length bytes ≤ most_bytes) × (n : ℕ) × (us : List TupleData) × LinesTell command (lines bytes) n us × (problem_with command us ≡ Ok p)
+unfolding problem
+text_is command bytes p e =
+    let size = unless_ok (ltb most_bytes (length bytes)) (errors.InputTooLong most_bytes) (lines_at command 1 blank_sheet (lines bytes) >>= λ s. whole command s.1 s.0.tuples s.0.rank) p e in
+    let q = bind_ok (lines_at command 1 blank_sheet (lines bytes)) (λ s. whole command s.1 s.0.tuples s.0.rank) p size.1 in
+    let w = whole_is command q.0.1 q.0.0.tuples q.0.0.rank p q.2 in
+    let r = ranks_are command 1 w.0 (lines bytes) q.0 w.1 q.1 in
+    (not_more most_bytes (length bytes) size.0, r.0, r.1, r.2, with_told command r.0 r.1 q.0.0 p r.3 w.2)
+
+text_back : (command : Command) (bytes : List ℕ) (p : ProblemData) (n : ℕ) (us : List TupleData) → length bytes ≤ most_bytes →
+    LinesTell command (lines bytes) n us → problem_with command us ≡ Ok p → problem command bytes ≡ Ok p
+unfolding problem
+text_back command bytes p n us h x e =
+    let r = ranks_back command 1 n (lines bytes) x.rank_line x.rest us x.clean x.kept x.states x.least x.greatest x.told in
+    cond-false (ltb most_bytes (length bytes)) (Err (errors.InputTooLong most_bytes)) (lines_at command 1 blank_sheet (lines bytes) >>= λ s. whole command s.1 s.0.tuples s.0.rank) (is_not_more most_bytes (length bytes) h)
+    ∙ ap (λ r. r >>= λ s. whole command s.1 s.0.tuples s.0.rank) r.1 ∙ e
+
+-- ---- one tuple
 one_is : (ts : List TupleData) (t : TupleData) → one_tuple ts ≡ Ok t → ts ≡ t ∷ []
 one_is [] t e = absurd (cc)
 one_is (u ∷ []) t e = ap (λ v. v ∷ []) (ok_is u t e)
 one_is (u ∷ v ∷ ts) t e = absurd (cc)
 
-whole_is : (end : ℕ) (ts : List TupleData) (o : Option ℕ) (t : TupleData) → whole commands.Reduce end ts o ≡ Ok (reduce t) → (m : ℕ) × (o ≡ Some m) × (ts ≡ t ∷ [])
-whole_is end ts None t e = absurd (cc)
-whole_is end ts (Some m) t e =
-    let p = bind_ok (one_tuple ts) (λ t. Ok (reduce t)) (reduce t) e in
+with_one : (ts : List TupleData) (t : TupleData) → problem_with commands.Reduce ts ≡ Ok (reduce t) → ts ≡ t ∷ []
+with_one ts t e =
+    let p = bind_ok (one_tuple ts) (λ u. Ok (reduce u)) (reduce t) e in
     let same : p.0 ≡ t = (cc) in
-    (m, refl, one_is ts t (p.1 ∙ ap (λ v. Ok v) same))
+    one_is ts t (p.1 ∙ ap (λ v. Ok v) same)
 
 one_line : (n : ℕ) (ls : List (List ℕ)) (t : TupleData) → TupleLines n ls (t ∷ []) → (line : List ℕ) × (ls ≡ line ∷ []) × IsTupleLine n line t
 one_line n ls t (more line _ d none) = (line, refl, d)
 
-text_is : (bytes : List ℕ) (t : TupleData) → problem commands.Reduce bytes ≡ Ok (reduce t) → (length bytes ≤ most_bytes) × IsReduceText bytes t
-unfolding problem
-text_is bytes t e =
-    let size = unless_ok (ltb most_bytes (length bytes)) (errors.InputTooLong most_bytes) (lines_at commands.Reduce 1 blank_sheet (lines bytes) >>= λ s. whole commands.Reduce s.1 s.0.tuples s.0.rank) (reduce t) e in
-    let p = bind_ok (lines_at commands.Reduce 1 blank_sheet (lines bytes)) (λ s. whole commands.Reduce s.1 s.0.tuples s.0.rank) (reduce t) size.1 in
-    let w = whole_is p.0.1 p.0.0.tuples p.0.0.rank t p.2 in
-    let r = ranks_are commands.Reduce 1 w.0 (lines bytes) p.0 w.1 p.1 in
-    let tuples : r.tuples ≡ t ∷ [] = ap (λ s. s.tuples) (sym r.sheet) ∙ w.2 in
-    let d = one_line r.rank r.rest t (subst (TupleLines r.rank r.rest) tuples r.told) in
-    let rank : r.rank ≡ t.rank = ap (λ v. v.rank) (sym d.2.cyclic) in (
-      not_more most_bytes (length bytes) size.0,
+reduce_is : (bytes : List ℕ) (t : TupleData) → problem commands.Reduce bytes ≡ Ok (reduce t) → (length bytes ≤ most_bytes) × IsReduceText bytes t
+reduce_is bytes t e =
+    let x = text_is commands.Reduce bytes (reduce t) e in
+    let d = one_line x.1 x.3.rest t (subst (TupleLines x.1 x.3.rest) (with_one x.2 t x.4) x.3.told) in
+    let rank : x.1 ≡ t.rank = ap (λ v. v.rank) (sym d.2.cyclic) in (
+      x.0,
       record {
-        clean = r.clean;
-        rank_line = r.rank_line;
+        clean = x.3.clean;
+        rank_line = x.3.rank_line;
         tuple_line = d.0;
-        kept = r.kept ∙ ap (λ ls. r.rank_line ∷ ls) d.1;
-        rank = subst (λ (n : ℕ). IsRankLine n r.rank_line) rank r.states;
-        least = omega (arith, rank, r.least);
-        greatest = omega (arith, rank, r.greatest);
+        kept = x.3.kept ∙ ap (λ ls. x.3.rank_line ∷ ls) d.1;
+        rank = subst (λ (n : ℕ). IsRankLine n x.3.rank_line) rank x.3.states;
+        least = omega (arith, rank, x.3.least);
+        greatest = omega (arith, rank, x.3.greatest);
         tuple = subst (λ (n : ℕ). IsTupleLine n d.0 t) rank d.2;
       },
     )
 
-text_back : (bytes : List ℕ) (t : TupleData) → length bytes ≤ most_bytes → IsReduceText bytes t → problem commands.Reduce bytes ≡ Ok (reduce t)
-unfolding problem
-text_back bytes t h x =
-    let r = ranks_back commands.Reduce 1 t.rank (lines bytes) x.rank_line (x.tuple_line ∷ []) (t ∷ []) x.clean x.kept x.rank x.least x.greatest (more x.tuple_line t x.tuple none) in
-    cond-false (ltb most_bytes (length bytes)) (Err (errors.InputTooLong most_bytes)) (lines_at commands.Reduce 1 blank_sheet (lines bytes) >>= λ s. whole commands.Reduce s.1 s.0.tuples s.0.rank) (is_not_more most_bytes (length bytes) h)
-    ∙ ap (λ r. r >>= λ s. whole commands.Reduce s.1 s.0.tuples s.0.rank) r.1
+reduce_back : (bytes : List ℕ) (t : TupleData) → length bytes ≤ most_bytes → IsReduceText bytes t → problem commands.Reduce bytes ≡ Ok (reduce t)
+reduce_back bytes t h x =
+    text_back commands.Reduce bytes (reduce t) t.rank (t ∷ []) h
+    (record {
+      clean = x.clean;
+      rank_line = x.rank_line;
+      rest = x.tuple_line ∷ [];
+      kept = x.kept;
+      states = x.rank;
+      least = x.least;
+      greatest = x.greatest;
+      told = more x.tuple_line t x.tuple none;
+    }) refl
 
 pub reads_reduce_texts : ReadsReduceTexts
-reads_reduce_texts bytes t = (text_is bytes t, λ p. text_back bytes t p.0 p.1)
+reads_reduce_texts bytes t = (reduce_is bytes t, λ p. reduce_back bytes t p.0 p.1)
+
+-- ---- two tuples
+two_are : (ts : List TupleData) (p : TupleData × TupleData) → two_tuples ts ≡ Ok p → ts ≡ p.0 ∷ p.1 ∷ []
+two_are [] p e = absurd (cc)
+two_are (t ∷ []) p e = absurd (cc)
+two_are (t ∷ u ∷ []) p e = ap (λ q. q.0 ∷ q.1 ∷ []) (ok_is (t, u) p e)
+two_are (t ∷ u ∷ v ∷ ts) p e = absurd (cc)
+
+with_two : (ts : List TupleData) (s t : TupleData) → problem_with commands.Decide ts ≡ Ok (decide s t) → (ts ≡ s ∷ t ∷ []) × (length s.words ≡ length t.words)
+with_two ts s t e =
+    let p = bind_ok (two_tuples ts) (λ q. decide_both q.0 q.1) (decide s t) e in
+    let u = p.0.0 in
+    let v = p.0.1 in
+    let q = if_ok (length u.words == length v.words) (errors.SizeMismatch (length u.words) (length v.words)) (Ok (decide u v)) (decide s t) p.2 in
+    let same : decide u v ≡ decide s t = ok_is (decide u v) (decide s t) q.1 in
+    let first : u ≡ s = (cc) in
+    let second : v ≡ t = (cc) in (
+      two_are ts p.0 p.1 ∙ ap (λ w. w ∷ v ∷ []) first ∙ ap (λ w. s ∷ w ∷ []) second,
+      ap (λ w. length w.words) (sym first) ∙ eqb-true (length u.words) (length v.words) q.0 ∙ ap (λ w. length w.words) second,
+    )
+
+with_two_back : (s t : TupleData) → length s.words ≡ length t.words → problem_with commands.Decide (s ∷ t ∷ []) ≡ Ok (decide s t)
+with_two_back s t e = cond-true (length s.words == length t.words) (Ok (decide s t)) (Err (errors.SizeMismatch (length s.words) (length t.words))) (eq_true (length s.words) (length t.words) e)
+
+two_lines : (n : ℕ) (ls : List (List ℕ)) (s t : TupleData) → TupleLines n ls (s ∷ t ∷ []) → (line other : List ℕ) × (ls ≡ line ∷ other ∷ []) × IsTupleLine n line s × IsTupleLine n other t
+two_lines n ls s t (more line _ d (more other _ e none)) = (line, other, refl, d, e)
+
+decide_is : (bytes : List ℕ) (s t : TupleData) → problem commands.Decide bytes ≡ Ok (decide s t) → (length bytes ≤ most_bytes) × IsDecideText bytes s t
+decide_is bytes s t e =
+    let x = text_is commands.Decide bytes (decide s t) e in
+    let w = with_two x.2 s t x.4 in
+    let d = two_lines x.1 x.3.rest s t (subst (TupleLines x.1 x.3.rest) w.0 x.3.told) in
+    let rank : x.1 ≡ s.rank = ap (λ v. v.rank) (sym d.3.cyclic) in (
+      x.0,
+      record {
+        clean = x.3.clean;
+        rank_line = x.3.rank_line;
+        first_line = d.0;
+        second_line = d.1;
+        kept = x.3.kept ∙ ap (λ ls. x.3.rank_line ∷ ls) d.2;
+        rank = subst (λ (n : ℕ). IsRankLine n x.3.rank_line) rank x.3.states;
+        least = omega (arith, rank, x.3.least);
+        greatest = omega (arith, rank, x.3.greatest);
+        first = subst (λ (n : ℕ). IsTupleLine n d.0 s) rank d.3;
+        second = subst (λ (n : ℕ). IsTupleLine n d.1 t) rank d.4;
+        equal = w.1;
+      },
+    )
+
+decide_back : (bytes : List ℕ) (s t : TupleData) → length bytes ≤ most_bytes → IsDecideText bytes s t → problem commands.Decide bytes ≡ Ok (decide s t)
+decide_back bytes s t h x =
+    text_back commands.Decide bytes (decide s t) s.rank (s ∷ t ∷ []) h
+    (record {
+      clean = x.clean;
+      rank_line = x.rank_line;
+      rest = x.first_line ∷ x.second_line ∷ [];
+      kept = x.kept;
+      states = x.rank;
+      least = x.least;
+      greatest = x.greatest;
+      told = more x.first_line s x.first (more x.second_line t x.second none);
+    }) (with_two_back s t x.equal)
+
+pub reads_decide_texts : ReadsDecideTexts
+reads_decide_texts bytes s t = (decide_is bytes s t, λ p. decide_back bytes s t p.0 p.1)

@@ -10,7 +10,7 @@ use Rattle.wh_text.specs.declared.read_error.ReadError.TheVariants as errors
 use Rattle.wh_text.specs.Lines.{Field, lines, fields, is_allowed, is_comment}
 use Rattle.wh_text.specs.Numbers.{number}
 use Rattle.wh_text.specs.Spellings.{letter_of, letter_text, letters_at, word_at, word_text}
-use Rattle.wh_text.specs.Problems.{problem, reduce, most_bytes}
+use Rattle.wh_text.specs.Problems.{problem, reduce, decide, most_bytes}
 
 -- ---- fields
 -- A number is read exactly from its decimal digits.
@@ -113,9 +113,27 @@ pub record IsReduceText (bytes : List ℕ) (t : TupleData) : Type 0 where
   pub greatest : t.rank ≤ 26
   pub tuple : IsTupleLine t.rank tuple_line t
 
+-- The text states a problem of `decide`: its kept lines are a line with a rank of 1 to 6, and a line for each of the two tuples, which have equally many words.
+pub record IsDecideText (bytes : List ℕ) (s t : TupleData) : Type 0 where
+  pub clean : All IsClean (lines bytes)
+  pub rank_line : List ℕ
+  pub first_line : List ℕ
+  pub second_line : List ℕ
+  pub kept : kept_lines (lines bytes) ≡ rank_line ∷ first_line ∷ second_line ∷ []
+  pub rank : IsRankLine s.rank rank_line
+  pub least : 1 ≤ s.rank
+  pub greatest : s.rank ≤ 6
+  pub first : IsTupleLine s.rank first_line s
+  pub second : IsTupleLine s.rank second_line t
+  pub equal : length s.words ≡ length t.words
+
 -- A problem of `reduce` is read exactly from a text that states it and isn't too long.
 abbrev pub ReadsReduceTexts : Type 0
 ReadsReduceTexts = (bytes : List ℕ) (t : TupleData) → (problem commands.Reduce bytes ≡ Ok (reduce t)) ↔ ((length bytes ≤ most_bytes) × IsReduceText bytes t)
+
+-- A problem of `decide` is read exactly from a text that states it and isn't too long.
+abbrev pub ReadsDecideTexts : Type 0
+ReadsDecideTexts = (bytes : List ℕ) (s t : TupleData) → (problem commands.Decide bytes ≡ Ok (decide s t)) ↔ ((length bytes ≤ most_bytes) × IsDecideText bytes s t)
 
 -- Line l is the first with a byte that may not stand there, and the leftmost such byte has this column.
 pub record IsFirstBadByte (bytes : List ℕ) (l column : ℕ) : Type 0 where

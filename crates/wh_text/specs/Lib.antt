@@ -5,6 +5,7 @@ pub mod Numbers
 pub mod Spellings
 pub mod TupleLines
 pub mod Problems
+pub mod FieldTexts
 pub mod FlowTexts
 pub mod AnswerTexts
 pub mod RefusalTexts

@@ -1,5 +1,5 @@
 -- The text of a problem, and the first refusal of a text that isn't one.
-use Rattle.std.specs.Prelude.{ℕ, ◌+◌, leb, ltb, ◌&&◌, cond, List, [], ◌∷◌, ◌++◌, length, Option, Some, None, Result, Ok, Err, codes}
+use Rattle.std.specs.Prelude.{ℕ, ◌+◌, ◌==◌, leb, ltb, ◌&&◌, cond, List, [], ◌∷◌, ◌++◌, length, Option, Some, None, Result, Ok, Err, codes}
 use Rattle.wh_words.specs.Tuples.{TupleData}
 use Rattle.wh_text.specs.declared.command.Command.{Command}
 use Rattle.wh_text.specs.declared.command.Command.TheVariants as commands
@@ -16,10 +16,12 @@ use Rattle.wh_text.specs.TupleLines.{tuple_at}
 -- The problem of a command, whatever room its tuples have.
 pub data ProblemData : Type 0 where
   reduce : TupleData → ProblemData
+  decide : TupleData → TupleData → ProblemData
 
 -- What a text tells of a problem: all but the room of its tuples.
 abbrev pub problem_of : Problem → ProblemData
 problem_of (problems.Reduce t) = reduce t.plain
+problem_of (problems.Decide s t) = decide s.plain t.plain
 
 -- How many bytes the text of a problem may have.
 abbrev pub most_bytes : ℕ
@@ -28,6 +30,7 @@ most_bytes = 1048576
 -- The greatest rank of a command's problems.
 abbrev pub greatest_rank : Command → ℕ
 greatest_rank commands.Reduce = 26
+greatest_rank commands.Decide = 6
 
 -- What the lines so far have told.
 pub record Sheet : Type 0 where
@@ -100,9 +103,21 @@ one_tuple [] = Err (errors.TupleCount 1 0)
 one_tuple (t ∷ []) = Ok t
 one_tuple (t ∷ u ∷ ts) = Err (errors.TupleCount 1 (length (t ∷ u ∷ ts)))
 
+-- The two tuples of a problem that has two.
+abbrev pub two_tuples : List TupleData → Result (TupleData × TupleData) ReadError
+two_tuples [] = Err (errors.TupleCount 2 0)
+two_tuples (t ∷ []) = Err (errors.TupleCount 2 1)
+two_tuples (t ∷ u ∷ []) = Ok (t, u)
+two_tuples (t ∷ u ∷ v ∷ ts) = Err (errors.TupleCount 2 (length (t ∷ u ∷ v ∷ ts)))
+
+-- The problem of two tuples, which have equally many words.
+abbrev pub decide_both : TupleData → TupleData → Result ProblemData ReadError
+decide_both s t = cond (length s.words == length t.words) (Ok (decide s t)) (Err (errors.SizeMismatch (length s.words) (length t.words)))
+
 -- The problem that a command has with these tuples.
 abbrev pub problem_with : Command → List TupleData → Result ProblemData ReadError
 problem_with commands.Reduce ts = one_tuple ts >>= λ t. Ok (reduce t)
+problem_with commands.Decide ts = two_tuples ts >>= λ p. decide_both p.0 p.1
 
 -- What the tests of the whole text leave, at the place past the end.
 abbrev pub whole : Command → ℕ → List TupleData → Option ℕ → Result ProblemData ReadError

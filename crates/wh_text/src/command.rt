@@ -5,4 +5,6 @@
 pub enum Command {
     /// A trace from a tuple to one of least length, with its end.
     Reduce,
+    /// Whether moves carry one tuple onto another.
+    Decide,
 }

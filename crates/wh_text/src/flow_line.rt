@@ -5,7 +5,7 @@ ghost use Rattle.wh_flow.specs.Nets.{cell};
 ghost use Rattle.wh_text.specs.FlowTexts as spec;
 ghost use Rattle.wh_text.specs.FlowTexts.{texts_below, pair_field, pairs_text, flow_text, flows_text, HasSmallValue, HaveLines};
 
-use crate::printer::{letter_byte, push_number};
+use crate::field_printer::{letter_byte, push_number};
 use wh_flow::Flow;
 use wh_words::{Letter, OutOfMemory, Rank};
 

@@ -1,5 +1,5 @@
 //! Laws of reading, each the contract of an empty function.
-ghost use Rattle.wh_text.specs.Laws.{ReadsNumbers, ReadsLetters, ReadsWords, NamesTheFirstBadLetter, ReadsLines, ReadsFields, ReadsReduceTexts, NamesTheFirstBadByte};
+ghost use Rattle.wh_text.specs.Laws.{ReadsNumbers, ReadsLetters, ReadsWords, NamesTheFirstBadLetter, ReadsLines, ReadsFields, ReadsReduceTexts, ReadsDecideTexts, NamesTheFirstBadByte};
 
 /// A number is read exactly from its decimal digits.
 pub fn numbers()
@@ -34,6 +34,11 @@ pub fn fields()
 /// A text is accepted exactly where it is spelled as a problem of `reduce`.
 pub fn reduce_texts()
     ensures { ReadsReduceTexts }
+{}
+
+/// A text is accepted exactly where it is spelled as a problem of `decide`.
+pub fn decide_texts()
+    ensures { ReadsDecideTexts }
 {}
 
 /// A refusal of a byte names the first line that has a bad one, and the leftmost in it.

@@ -4,10 +4,12 @@
 mod answer;
 mod command;
 mod field;
+mod field_printer;
 mod flow_line;
 pub mod laws;
 mod line;
 mod number;
+mod numbered;
 mod printer;
 mod problem;
 mod read_error;
@@ -17,9 +19,10 @@ mod sheet;
 mod status;
 mod tuple_line;
 
-pub use answer::{Answer, Side};
+pub use answer::{Answer, Bound, Side, Verdict};
 pub use command::Command;
 pub use number::canonical_number;
+pub use numbered::Numbered;
 pub use printer::print_answer;
 pub use problem::Problem;
 pub use read_error::ReadError;

@@ -1,115 +1,19 @@
 //! Printing of answers.
-ghost use Rattle.std.specs.Prelude.{◌≡◌, ◌++◌, map, IfOk, OnOk, decimal};
-ghost use Rattle.std.specs.List.{flat_map};
-ghost use Rattle.wh_text.specs.Spellings as spelling;
-ghost use Rattle.wh_text.specs.AnswerTexts.{word_field, words_text, moves_text, move_field, set_below, side_text, reduced_text, answer_text, IsPrintableSide, IsPrintable};
+ghost use Rattle.std.specs.Prelude.{◌≡◌, ◌++◌, IfOk, OnOk};
+ghost use Rattle.wh_text.specs.AnswerTexts.{rank_text, side_text, reduced_text, level_text, bound_text, verdict_text, decided_text, answer_text, IsPrintableSide, IsPrintableVerdict, IsPrintable};
 
-use crate::answer::{Answer, Side};
+use crate::answer::{Answer, Bound, Side, Verdict};
+use crate::field_printer::{push_moves, push_number_line, push_words};
 use crate::flow_line::push_flows;
-use itoa::Buffer;
 use std::alloc::Global;
-use wh_moves::{Kind, Move};
-use wh_words::{Letter, LetterSet, OutOfMemory, Tuple};
+use wh_words::{OutOfMemory, Tuple};
 
-/// The byte of a letter.
-pub fn letter_byte(x: Letter) -> u8
-    ensures { result ≡ spelling.letter_text x }
+/// Writes the line of the rank of a tuple.
+fn push_rank(out: &mut Vec<u8>, tuple: &Tuple) -> Result<(), OutOfMemory>
+    ensures { OnOk result (out.new.items ≡ out.old.items ++ rank_text tuple.now.plain.rank) }
 {
-    if x.index() % 2 == 0 {
-        b'a' + x.index() / 2
-    } else {
-        b'A' + x.index() / 2
-    }
-}
-
-/// Writes a number in decimal.
-pub fn push_number(out: &mut Vec<u8>, n: u64) -> Result<(), OutOfMemory>
-    ensures { OnOk result (out.new.items ≡ out.old.items ++ decimal n) }
-{
-    let mut buffer = Buffer::new();
-    out.extend_from_slice(buffer.format(n).as_bytes())?;
-    Ok(())
-}
-
-/// Writes the letters of a word.
-fn push_letters(out: &mut Vec<u8>, word: &[Letter]) -> Result<(), OutOfMemory>
-    ensures { OnOk result (out.new.items ≡ out.old.items ++ map spelling.letter_text word.now) }
-{
-    for x in word {
-        out.push(letter_byte(*x))?;
-    }
-    Ok(())
-}
-
-/// Writes a word as a field.
-fn push_word(out: &mut Vec<u8>, word: &[Letter]) -> Result<(), OutOfMemory>
-    ensures { OnOk result (out.new.items ≡ out.old.items ++ word_field word.now) }
-{
-    out.push(b' ')?;
-    if word.is_empty() {
-        out.push(b'1')?;
-        Ok(())
-    } else {
-        push_letters(out, word)
-    }
-}
-
-/// Writes the words of a tuple as fields, and the end of the line.
-fn push_words(out: &mut Vec<u8>, tuple: &Tuple) -> Result<(), OutOfMemory>
-    ensures { OnOk result (out.new.items ≡ out.old.items ++ words_text tuple.now.plain.words) }
-{
-    for place in 0..tuple.count() {
-        push_word(out, tuple.word(place))?;
-    }
-    out.push(b'\n')?;
-    Ok(())
-}
-
-/// Writes the letters of a set, rising.
-#[tactic(auto, using(crate::proofs::SetTexts::set_start, crate::proofs::SetTexts::set_more, crate::proofs::SetTexts::set_none))]
-fn push_set(out: &mut Vec<u8>, set: LetterSet) -> Result<(), OutOfMemory>
-    ensures { OnOk result (out.new.items ≡ out.old.items ++ set_below set 52) }
-{
-    for index in 0..52 {
-        let x = Letter::of_index(index);
-        if set.contains(x) {
-            out.push(letter_byte(x))?;
-        }
-    }
-    Ok(())
-}
-
-/// Writes a move as a field.
-fn push_move(out: &mut Vec<u8>, m: &Move) -> Result<(), OutOfMemory>
-    ensures { OnOk result (out.new.items ≡ out.old.items ++ move_field m.now) }
-{
-    out.push(b' ')?;
-    match m.kind() {
-        Kind::Swap(k) => {
-            out.push(b's')?;
-            push_number(out, k as u64)
-        }
-        Kind::Invert(k) => {
-            out.push(b'i')?;
-            push_number(out, k as u64)
-        }
-        Kind::Cut { mult, set } => {
-            out.push(letter_byte(mult))?;
-            out.push(b':')?;
-            push_set(out, set)
-        }
-    }
-}
-
-/// Writes moves as fields, and the end of the line.
-fn push_moves(out: &mut Vec<u8>, moves: &[Move]) -> Result<(), OutOfMemory>
-    ensures { OnOk result (out.new.items ≡ out.old.items ++ moves_text moves.now) }
-{
-    for m in moves {
-        push_move(out, m)?;
-    }
-    out.push(b'\n')?;
-    Ok(())
+    out.extend_from_slice(b"rank")?;
+    push_number_line(out, tuple.rank().get() as u64)
 }
 
 /// Writes the lines of a side.
@@ -125,16 +29,101 @@ fn push_side(out: &mut Vec<u8>, side: &Side) -> Result<(), OutOfMemory>
     push_flows(out, side.end.rank(), side.flows.items())
 }
 
+/// Writes the lines of two sides.
+fn push_sides(out: &mut Vec<u8>, first: &Side, second: &Side) -> Result<(), OutOfMemory>
+    requires first { IsPrintableSide first.now }
+    requires second { IsPrintableSide second.now }
+    ensures { OnOk result (out.new.items ≡ out.old.items ++ (side_text first.now ++ side_text second.now)) }
+{
+    push_side(out, first)?;
+    push_side(out, second)
+}
+
 /// Writes all lines of the answer of `reduce` but the first and the last.
 fn push_reduced(out: &mut Vec<u8>, tuple: &Tuple, side: &Side) -> Result<(), OutOfMemory>
     requires { IsPrintableSide side.now }
     ensures { OnOk result (out.new.items ≡ out.old.items ++ reduced_text tuple.now side.now) }
 {
-    out.extend_from_slice(b"rank ")?;
-    push_number(out, tuple.rank().get() as u64)?;
-    out.extend_from_slice(b"\ntuple")?;
+    push_rank(out, tuple)?;
+    out.extend_from_slice(b"tuple")?;
     push_words(out, tuple)?;
     push_side(out, side)
+}
+
+/// Writes the lines of a level.
+fn push_level(out: &mut Vec<u8>, level: &[Tuple]) -> Result<(), OutOfMemory>
+    ensures { OnOk result (out.new.items ≡ out.old.items ++ level_text level.now) }
+{
+    out.extend_from_slice(b"level")?;
+    push_number_line(out, level.len() as u64)?;
+    for tuple in level {
+        out.extend_from_slice(b"at")?;
+        push_words(out, tuple)?;
+    }
+    Ok(())
+}
+
+/// Writes the bound that was met.
+fn push_bound(out: &mut Vec<u8>, bound: Bound) -> Result<(), OutOfMemory>
+    ensures { OnOk result (out.new.items ≡ out.old.items ++ bound_text bound) }
+{
+    match bound {
+        Bound::Length(length) => {
+            out.extend_from_slice(b" length")?;
+            push_number_line(out, length as u64)
+        }
+        Bound::Level(limit) => {
+            out.extend_from_slice(b" level")?;
+            push_number_line(out, limit as u64)
+        }
+    }
+}
+
+/// Writes the lines of a verdict after its keyword.
+#[tactic(auto, unfolding(crate::specs::AnswerTexts::verdict_text))]
+fn push_verdict(out: &mut Vec<u8>, verdict: &Verdict) -> Result<(), OutOfMemory>
+    requires { IsPrintableVerdict verdict.now }
+    ensures { OnOk result (out.new.items ≡ out.old.items ++ verdict_text verdict.now) }
+{
+    match verdict {
+        Verdict::Yes(moves) => {
+            out.extend_from_slice(b" yes\nmoves")?;
+            push_moves(out, moves.items())
+        }
+        Verdict::NoLength(first, second) => {
+            out.extend_from_slice(b" no length\n")?;
+            push_sides(out, first, second)?;
+            Ok(())
+        }
+        Verdict::NoLevel(first, second, level) => {
+            out.extend_from_slice(b" no level\n")?;
+            push_sides(out, first, second)?;
+            push_level(out, level.items())
+        }
+        Verdict::Undecided(bound) => {
+            out.extend_from_slice(b" undecided")?;
+            push_bound(out, *bound)
+        }
+    }
+}
+
+/// Writes all lines of the answer of `decide` but the first and the last.
+fn push_decided(
+    out: &mut Vec<u8>,
+    first: &Tuple,
+    second: &Tuple,
+    verdict: &Verdict,
+) -> Result<(), OutOfMemory>
+    requires { IsPrintableVerdict verdict.now }
+    ensures { OnOk result (out.new.items ≡ out.old.items ++ decided_text first.now second.now verdict.now) }
+{
+    push_rank(out, first)?;
+    out.extend_from_slice(b"first")?;
+    push_words(out, first)?;
+    out.extend_from_slice(b"second")?;
+    push_words(out, second)?;
+    out.extend_from_slice(b"verdict")?;
+    push_verdict(out, verdict)
 }
 
 /// The text of an answer: a heading, the rank, the lines of its command, and `done`. Each side has one flow for each
@@ -150,6 +139,14 @@ pub fn print_answer(alloc: Global, answer: &Answer) -> Result<Vec<u8>, OutOfMemo
         Answer::Reduce { tuple, side } => {
             out.extend_from_slice(b"whitehead 1 reduce\n")?;
             push_reduced(&mut out, tuple, side)?;
+        }
+        Answer::Decide {
+            first,
+            second,
+            verdict,
+        } => {
+            out.extend_from_slice(b"whitehead 1 decide\n")?;
+            push_decided(&mut out, first, second, verdict)?;
         }
     }
     out.extend_from_slice(b"done\n")?;

@@ -6,4 +6,6 @@ use wh_words::Tuple;
 pub enum Problem {
     /// To reduce a tuple.
     Reduce { tuple: Tuple },
+    /// To decide whether moves carry the first tuple onto the second.
+    Decide { first: Tuple, second: Tuple },
 }

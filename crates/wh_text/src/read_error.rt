@@ -40,6 +40,9 @@ pub enum ReadError {
     /// The text has another number of `tuple` lines than the command takes.
     #[error("{expected} tuples are expected, and {found} are found")]
     TupleCount { expected: u64, found: u64 },
+    /// The two tuples have different numbers of words: these.
+    #[error("the first tuple has {first} words and the second {second}")]
+    SizeMismatch { first: u64, second: u64 },
     /// There was no memory.
     #[error("out of memory")]
     OutOfMemory,

@@ -50,6 +50,34 @@ fn one_tuple(tuples: Vec<Tuple>) -> Result<Tuple, ReadError>
     }
 }
 
+/// The two tuples of a problem that has two, or TupleCount.
+fn two_tuples(tuples: Vec<Tuple>) -> Result<(Tuple, Tuple), ReadError>
+    ensures { Gives (λ p. (p.0.plain, p.1.plain)) result (spec.two_tuples (map (λ t. t.plain) tuples.items)) }
+{
+    let found = tuples.len();
+    let mut tuples = tuples;
+    match (tuples.pop(), tuples.pop()) {
+        (Some(second), Some(first)) if found == 2 => Ok((first, second)),
+        _ => Err(ReadError::TupleCount {
+            expected: 2,
+            found: found as u64,
+        }),
+    }
+}
+
+/// The problem of two tuples, or SizeMismatch.
+fn decide_both(first: Tuple, second: Tuple) -> Result<Problem, ReadError>
+    ensures { Gives problem_of result (spec.decide_both first.plain second.plain) }
+{
+    if first.count() != second.count() {
+        return Err(ReadError::SizeMismatch {
+            first: first.count() as u64,
+            second: second.count() as u64,
+        });
+    }
+    Ok(Problem::Decide { first, second })
+}
+
 /// The problem that all lines tell, or the first refusal of the whole.
 fn whole(command: Command, end: u64, sheet: Sheet) -> Result<Problem, ReadError>
     ensures { Gives problem_of result (spec.whole command end sheet.tuples sheet.rank) }
@@ -62,6 +90,10 @@ fn whole(command: Command, end: u64, sheet: Sheet) -> Result<Problem, ReadError>
         Command::Reduce => Ok(Problem::Reduce {
             tuple: one_tuple(tuples)?,
         }),
+        Command::Decide => {
+            let (first, second) = two_tuples(tuples)?;
+            decide_both(first, second)
+        }
     }
 }
 

@@ -3,7 +3,7 @@ ghost use Rattle.std.specs.Prelude.{◌≡◌, ◌≢◌, ◌++◌, IfOk, OnOk, 
 ghost use Rattle.wh_text.specs.declared.read_error.ReadError.TheVariants as errors;
 ghost use Rattle.wh_text.specs.RefusalTexts.{cause_text, refusal_text, refused_words_text};
 
-use crate::printer::push_number;
+use crate::field_printer::push_number;
 use crate::read_error::ReadError;
 use std::alloc::Global;
 use wh_words::OutOfMemory;
@@ -61,6 +61,9 @@ fn push_cause(out: &mut Vec<u8>, error: ReadError) -> Result<(), OutOfMemory>
         }
         ReadError::TupleCount { expected, found } => {
             push_two(out, b"tuple-count ", expected, b" ", found)
+        }
+        ReadError::SizeMismatch { first, second } => {
+            push_two(out, b"size-mismatch ", first, b" ", second)
         }
         ReadError::OutOfMemory => Ok(()),
     }

@@ -37,6 +37,7 @@ fn greatest_rank(command: Command) -> u64
 {
     match command {
         Command::Reduce => 26,
+        Command::Decide => 6,
     }
 }
 

@@ -2,5 +2,5 @@ pub mod Simple
 pub mod Parsed
 pub mod Pieces
 pub mod Telling
-pub mod Sides
+pub mod ReadProblems
 pub mod OneText

@@ -12,7 +12,9 @@ use Rattle.whitehead.specs.declared.arguments.WordsError.TheVariants as errors
 
 -- The command of a name.
 abbrev pub command_of : Text → Option Command
-command_of t = cond (are t (codes "reduce")) (Some commands.Reduce) None
+command_of t =
+    cond (are t (codes "reduce")) (Some commands.Reduce)
+    (cond (are t (codes "decide")) (Some commands.Decide) None)
 
 abbrev pub command_in : Option Text → Option Command
 command_in None = None

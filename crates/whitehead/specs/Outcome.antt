@@ -15,7 +15,7 @@ use Rattle.whitehead.specs.Streams.{IsWholeUpTo, IsPartWritten}
 -- What is told for these words and these bytes: a status and a text. Where the words ask nothing, they are refused, and no byte counts.
 pub data Told (words : List Text) (bytes : List ℕ) : Status → List ℕ → Type 0 where
   words_refused : asked words ≡ None → Told words bytes Refused refused_words_text
-  replied : {a : Arguments} {status : Status} {text : List ℕ} → asked words ≡ Some a → Replies a.command bytes status text → Told words bytes status text
+  replied : {a : Arguments} {status : Status} {text : List ℕ} → asked words ≡ Some a → Replies a.command a.limit bytes status text → Told words bytes status text
 
 module _ (words : List Text) (left left' held held' : Option (List ℕ)) where
   -- A whole text is told, for the bytes that were read: none where the words are refused, and else all, or one more than the limit.

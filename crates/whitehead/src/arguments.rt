@@ -34,6 +34,7 @@ fn command(name: Option<&str>) -> Option<Command>
 {
     match name? {
         "reduce" => Some(Command::Reduce),
+        "decide" => Some(Command::Decide),
         _ => None,
     }
 }
@@ -72,7 +73,7 @@ fn arguments_of(name: Option<&str>, limit: Option<&str>, workers: Option<&str>) 
     })
 }
 
-/// What the words after the program's name ask: COMMAND, which is `reduce`, and the options `--limit N` with N from 1 to
+/// What the words after the program's name ask: COMMAND, which is `reduce` or `decide`, and the options `--limit N` with N from 1 to
 /// 131,072, which stands at 10,000, and `--workers N` with N from 1 to 64, which stands at 1. `Refused` comes exactly
 /// where the parser refuses the words, the command is another word, or an option's text is no canonical number of its
 /// range.

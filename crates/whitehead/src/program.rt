@@ -29,10 +29,10 @@ fn finish<K: Sink>(sink: &mut K, text: &[u8], status: Status) -> Status
 /// Runs the program: reads its words, which stand after its name, then the whole source, and writes the answer or the
 /// first refusal to the sink. The text stands whole in memory before the first byte is written.
 ///
-/// Where the source tells its bytes and the sink what it holds, the clause `ran` says for `Done` and `Refused` that the
-/// sink grew by exactly the text that these words and these bytes are told, and that the source was read to its end or to
-/// one byte past 1,048,576. For `WriteFault` it grew by a front of such a text, and for `ReadFault` and `OutOfMemory` by
-/// nothing. Where the words are refused nothing is read.
+/// Where the source tells its bytes and the sink what it holds, the clause `ran` says for `Done`, `No`, `Refused` and
+/// `Undecided` that the sink grew by exactly the text that these words and these bytes are told, and that the source was
+/// read to its end or to one byte past 1,048,576. For `WriteFault` it grew by a front of such a text, and for `ReadFault`
+/// and `OutOfMemory` by nothing. Where the words are refused nothing is read.
 pub fn run<S: Source, K: Sink>(
     alloc: Global,
     words: &[&str],
@@ -54,7 +54,7 @@ pub fn run<S: Source, K: Sink>(
         Err(InputError::Fault) => return Status::ReadFault,
         Err(InputError::OutOfMemory) => return Status::OutOfMemory,
     };
-    match reply_to(alloc, arguments.command, &bytes) {
+    match reply_to(alloc, arguments.command, arguments.limit, &bytes) {
         Ok(reply) => finish(sink, reply.text.items(), reply.status),
         Err(OutOfMemory) => Status::OutOfMemory,
     }

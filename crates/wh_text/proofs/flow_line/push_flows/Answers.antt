@@ -1,4 +1,4 @@
-use Rattle.std.proofs.Common.{◌≡◌, ◌∙◌, ℕ, List, [], ◌*◌, length, get_or, refl, ap, arith}
+use Rattle.std.proofs.Common.{◌∙◌, ℕ, List, [], ◌*◌, length, get_or, refl, ap, arith}
 use Rattle.std.proofs.lemmas.List.{get_or_read_under}
 use Rattle.wh_text.specs.FlowTexts.{flow_text}
 use Rattle.wh_text.proofs.RepeatedTexts.{texts_more}

@@ -1,0 +1,44 @@
+-- Moves that carry one tuple onto another, and the inverse of a list.
+use Rattle.std.proofs.Common.{◌≡◌, ◌≤◌, List, [], ◌∷◌, ◌++◌, map, reverse, refl, sym, ap, ◌∙◌, subst, arith}
+use Rattle.std.proofs.lemmas.List.{map-append, reverse-append}
+use Rattle.wh_words.specs.Tuples.{TupleData, IsTuple}
+use Rattle.wh_words.specs.Moves.{Move, IsMove, inverse_move}
+use Rattle.wh_words.specs.MoveLists.{inverse_list}
+use Rattle.wh_words.specs.Action.{act, act_all}
+use Rattle.wh_words.specs.CapacityTraces.{IsCapacityTrace, IsCapacityStep}
+use Rattle.wh_words.specs.CapacityTraces.IsCapacityTrace.{done, step}
+use Rattle.wh_words.specs.Levels.{Reaches}
+use Rattle.wh_words.specs.Levels.Reaches.{here, step as further}
+use Rattle.wh_words.proofs.ImageLetters.{act_tuple}
+use Rattle.wh_moves.proofs.InverseMoves.{undone}
+use Rattle.wh_reduce.proofs.Traced.{step_shortens}
+
+-- ---- what moves lead to
+pub act_all-append : (t : TupleData) (ms ns : List Move) → act_all t (ms ++ ns) ≡ act_all (act_all t ms) ns
+act_all-append t [] ns = refl
+act_all-append t (m ∷ ms) ns = act_all-append (act t m) ms ns
+
+pub trace_leads : (t u : TupleData) (ms : List Move) → IsCapacityTrace t ms u → act_all t ms ≡ u
+trace_leads t u [] (done tight) = refl
+trace_leads t u (m ∷ ms) (step s r) = trace_leads (act t m) u ms r
+
+pub walk_leads : (t u : TupleData) (ms : List Move) → Reaches t ms u → act_all t ms ≡ u
+walk_leads t u [] here = refl
+walk_leads t u (m ∷ ms) (further l r) = walk_leads (act t m) u ms r
+
+-- ---- back along a trace
+step_move : (t : TupleData) (m : Move) → t.rank ≤ 26 → IsCapacityStep t m → IsMove m
+step_move t m low s = subst IsMove (sym s.is) (record { rank = low; kind = s.cut.valid })
+
+step_rank : (t : TupleData) (m : Move) → IsCapacityStep t m → t.rank ≡ m.rank
+step_rank t m s = sym (ap (λ (k : Move). k.rank) s.is)
+
+pub trace_back : (t u : TupleData) (ms : List Move) → IsTuple t → t.rank ≤ 26 → IsCapacityTrace t ms u → act_all u (inverse_list ms) ≡ t
+trace_back t u [] is low (done tight) = refl
+trace_back t u (m ∷ ms) is low (step s r) =
+    let move = step_move t m low s in
+    let next : IsTuple (act t m) = act_tuple t m is move (step_rank t m s) (omega (arith, step_shortens t m is s, is.short)) in
+    ap (act_all u) (ap (map inverse_move) (reverse-append (m ∷ []) ms) ∙ map-append inverse_move (reverse ms) (m ∷ []))
+    ∙ act_all-append u (inverse_list ms) (inverse_move m ∷ [])
+    ∙ ap (λ v. act v (inverse_move m)) (trace_back (act t m) u ms next low r)
+    ∙ undone t m is move

@@ -1,0 +1,5 @@
+pub mod Sides
+pub mod Inverses
+pub mod Verdicts
+pub mod OneSide
+pub mod OneAnswer

@@ -1,0 +1,44 @@
+//! The answer to a problem.
+ghost use Rattle.std.specs.Prelude.{IfOk};
+ghost use Rattle.wh_text.specs.Problems.{problem_of};
+ghost use Rattle.wh_text.specs.AnswerTexts.{IsPrintable};
+ghost use Rattle.wh_answer.specs.Answers.{Answers, IsAnswerable};
+
+use crate::deciding::decide;
+use crate::side::side_of;
+use std::alloc::Global;
+use wh_reduce::reduce;
+use wh_text::{Answer, Problem};
+use wh_words::OutOfMemory;
+
+/// The answer to a problem, where levels may have at most so many tuples. It can be printed.
+///
+/// A tuple that is to be reduced is answered with its trace, the end of that, and the first flows of the end. For two
+/// tuples of one rank, at most 6, and with equally many words the verdict is the first of these cases that holds of the
+/// ends of their traces: a no where their lengths differ; a yes where they are one tuple; undecided where they have more
+/// than 256 letters; undecided where the level of the first end has more tuples than the limit; a yes where the second end
+/// is in this level; and a no with the whole level where it isn't. The moves of a yes carry the first tuple onto the second
+/// (Lyndon and Schupp, I.4).
+pub fn answer(alloc: Global, problem: &Problem, limit: u32) -> Result<Answer, OutOfMemory>
+    requires { IsAnswerable (problem_of problem.now) }
+    ensures answers { IfOk result (Answers limit (problem_of problem.now)) }
+    ensures printable { IfOk result IsPrintable }
+{
+    match problem {
+        Problem::Reduce { tuple } => {
+            let trace = reduce(alloc, tuple)?;
+            Ok(Answer::Reduce {
+                tuple: tuple.copy(alloc)?,
+                side: side_of(alloc, trace)?,
+            })
+        }
+        Problem::Decide { first, second } => {
+            let verdict = decide(alloc, first, second, limit)?;
+            Ok(Answer::Decide {
+                first: first.copy(alloc)?,
+                second: second.copy(alloc)?,
+                verdict,
+            })
+        }
+    }
+}

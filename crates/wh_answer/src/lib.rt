@@ -1,0 +1,11 @@
+//! Answers to problems.
+#![tactic(auto)]
+
+mod answering;
+mod deciding;
+mod exploring;
+mod joining;
+pub mod laws;
+mod side;
+
+pub use answering::answer;

@@ -1,0 +1,27 @@
+//! What an answer tells of one tuple.
+ghost use Rattle.std.specs.Prelude.{◌≡◌, IfOk};
+ghost use Rattle.wh_words.specs.Tuples.{TupleData};
+ghost use Rattle.wh_words.specs.CapacityTraces.{IsTight, IsCapacityTrace};
+ghost use Rattle.wh_text.specs.AnswerTexts.{IsPrintableSide};
+ghost use Rattle.wh_answer.specs.Answers.{IsSideOf};
+
+use std::alloc::Global;
+use wh_reduce::{Trace, flows};
+use wh_text::Side;
+use wh_words::{List, OutOfMemory};
+
+/// The side of the tuple that has this trace.
+pub fn side_of(alloc: Global, trace: Trace) -> Result<Side, OutOfMemory>
+    requires { IsTight trace.end.plain }
+    ensures side { (t : TupleData) → IsCapacityTrace t trace.moves trace.end.plain → IfOk result (IsSideOf t) }
+    ensures own { IfOk result (λ side. (side.trace ≡ trace.moves) × (side.end ≡ trace.end)) }
+    ensures printable { IfOk result IsPrintableSide }
+{
+    let Trace { moves, end } = trace;
+    let flows = flows(alloc, &end)?;
+    Ok(Side {
+        trace: moves,
+        end,
+        flows: List::of(flows),
+    })
+}

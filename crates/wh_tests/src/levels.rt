@@ -1,0 +1,170 @@
+//! Levels: the level moves of a tuple, the rows of a level, its tree and its first walks.
+ghost use Rattle.std.specs.Prelude.{◌≡◌, ◌<◌, ◌≤◌, IfOk};
+ghost use Rattle.wh_expand.specs.Rows.{IsRow, row_tuple};
+
+use crate::support::{letter, tuple};
+use std::alloc::Global;
+use std::marker::Brand;
+use std::sync::ledger::{Blank, Ledger};
+use std::test::Fail;
+use wh_expand::{Row, level_moves};
+use wh_level::{Level, Sealed, seal, tree};
+use wh_moves::{Kind, Move};
+use wh_walk::walk;
+use wh_words::{LetterSet, OutOfMemory, Steps, Tuple};
+use wh_workers::{Explored, explore_one};
+
+/// The row of a tuple, by a counter over a blank.
+fn row_over<L: Ledger>(alloc: Global, tuple: &Tuple, blank: Blank) -> Result<Row, OutOfMemory>
+    requires rank { tuple.now.plain.rank ≤ 6 }
+    requires name { blank.name ≡ L.name }
+    requires parts { blank.parts ≡ L.parts }
+    requires some { 0 < blank.parts }
+    ensures row { IfOk result IsRow }
+    ensures own { IfOk result (λ r. row_tuple r ≡ tuple.now.plain) }
+{
+    let mut steps: Steps<L> = Steps::new(blank);
+    level_moves(alloc, tuple, &mut steps)
+}
+
+/// The row of a tuple.
+fn row(alloc: Global, tuple: &Tuple) -> Result<Row, OutOfMemory>
+    requires { tuple.now.plain.rank ≤ 6 }
+    ensures row { IfOk result IsRow }
+    ensures own { IfOk result (λ r. row_tuple r ≡ tuple.now.plain) }
+{
+    row_over::<Brand>(alloc, tuple, Blank::new(1))
+}
+
+/// What exploring the level of a root answers, by a counter over a blank.
+fn explored_over<L: Ledger>(
+    alloc: Global,
+    root: &Tuple,
+    limit: u32,
+    blank: Blank,
+) -> Result<Explored, OutOfMemory>
+    requires rank { root.now.plain.rank ≤ 6 }
+    requires name { blank.name ≡ L.name }
+    requires parts { blank.parts ≡ L.parts }
+    requires some { 0 < blank.parts }
+{
+    let mut steps: Steps<L> = Steps::new(blank);
+    explore_one(alloc, root, limit, &mut steps)
+}
+
+/// What exploring the level of a root answers.
+fn explored(alloc: Global, root: &Tuple, limit: u32) -> Result<Explored, OutOfMemory>
+    requires { root.now.plain.rank ≤ 6 }
+{
+    explored_over::<Brand>(alloc, root, limit, Blank::new(1))
+}
+
+/// The tuple of a problem text of rank 6 at most.
+fn low_tuple(alloc: Global, text: &str) -> Result<Tuple, Fail>
+    ensures { IfOk result (λ t. t.plain.rank ≤ 6) }
+{
+    let tuple = tuple(alloc, text)?;
+    if tuple.rank().get() > 6 {
+        return Err("rank")?;
+    }
+    Ok(tuple)
+}
+
+#[test]
+fn a_commutator_has_fifteen_level_moves(rt: HostRuntime) -> Result<(), Fail> {
+    let root = tuple(rt.alloc(), "rank 2\ntuple abAB\n")?;
+    let rank = root.rank();
+    assert!(rt; rank.get() <= 6);
+    let row = row(rt.alloc(), &root)?;
+    let moves = row.moves.items();
+    assert_eq!(rt; moves.len(), 15);
+    assert_eq!(rt; moves.first().copied(), Move::swap(rank, 1));
+    assert_eq!(rt; moves.get(1).copied(), Move::invert(rank, 1));
+    assert_eq!(rt; moves.get(2).copied(), Move::invert(rank, 2));
+    assert_eq!(rt;
+        moves.get(3).copied(),
+        Move::cut(rank, letter(b'a')?, LetterSet::of_bits(5))
+    );
+    Ok(())
+}
+
+#[test]
+#[tactic(auto, using(crate::proofs::RootRows::root_row_within, crate::proofs::RootRows::root_row_is))]
+fn the_row_of_a_root_misses_its_images(rt: HostRuntime) -> Result<(), Fail> {
+    let root = tuple(rt.alloc(), "rank 2\ntuple abAB\n")?;
+    assert!(rt; root.rank().get() <= 6);
+    let rows = [row(rt.alloc(), &root)?];
+    let Sealed::Missing(missing) = seal(rt.alloc(), &root, &rows)? else {
+        return Err("closed")?;
+    };
+    assert_eq!(rt; missing.items().len(), 1);
+    assert!(rt; missing.items()[0].same(&tuple(rt.alloc(), "rank 2\ntuple aBAb\n")?));
+    Ok(())
+}
+
+/// The level of the root of a problem text, which has at most so many tuples.
+fn level(alloc: Global, root: &str, limit: u32) -> Result<Level, Fail> {
+    let root = low_tuple(alloc, root)?;
+    match explored(alloc, &root, limit)? {
+        Explored::Closed(level) => Ok(level),
+        Explored::Passed => Err("passed")?,
+    }
+}
+
+/// The first walk in the level of a commutator to the tuple of a problem text.
+fn walk_to(alloc: Global, target: &str) -> Result<Option<Vec<Move>>, Fail> {
+    let level = level(alloc, "rank 2\ntuple abAB\n", 2)?;
+    Ok(walk(alloc, &level, &tuple(alloc, target)?)?)
+}
+
+#[test]
+fn the_level_of_a_generator_has_four_tuples(rt: HostRuntime) -> Result<(), Fail> {
+    let level = level(rt.alloc(), "rank 2\ntuple b\n", 4)?;
+    assert_eq!(rt; level.tuples().len(), 4);
+    assert_eq!(rt; level.root().count(), 1);
+    assert_eq!(rt; level.place(level.root()), Some(2));
+    Ok(())
+}
+
+#[test]
+fn a_level_passes_one_tuple_less(rt: HostRuntime) -> Result<(), Fail> {
+    let root = low_tuple(rt.alloc(), "rank 2\ntuple b\n")?;
+    assert!(rt; matches!(&explored(rt.alloc(), &root, 3)?, Explored::Passed));
+    Ok(())
+}
+
+#[test]
+fn a_tree_leads_from_the_root(rt: HostRuntime) -> Result<(), Fail> {
+    let level = level(rt.alloc(), "rank 2\ntuple abAB\n", 2)?;
+    let tree = tree(rt.alloc(), &level)?;
+    let swap = Move::swap(level.root().rank(), 1).ok_or("swap")?;
+    assert_eq!(rt; tree.parent.items().len(), 2);
+    assert_eq!(rt; tree.parent.items()[0], None);
+    assert_eq!(rt; tree.parent.items()[1], Some((0, swap)));
+    assert_eq!(rt; level.into_tuples().len(), 2);
+    Ok(())
+}
+
+#[test]
+fn a_walk_takes_the_first_move(rt: HostRuntime) -> Result<(), Fail> {
+    let moves = walk_to(rt.alloc(), "rank 2\ntuple aBAb\n")?.ok_or("none")?;
+    assert_eq!(rt; moves.len(), 1);
+    assert!(rt; matches!(moves[0].kind(), Kind::Swap(1)));
+    Ok(())
+}
+
+#[test]
+fn the_walk_to_the_root_is_empty(rt: HostRuntime) -> Result<(), Fail> {
+    assert!(rt;
+        walk_to(rt.alloc(), "rank 2\ntuple abAB\n")?
+            .ok_or("none")?
+            .is_empty()
+    );
+    Ok(())
+}
+
+#[test]
+fn no_walk_leads_off_the_level(rt: HostRuntime) -> Result<(), Fail> {
+    assert!(rt; walk_to(rt.alloc(), "rank 2\ntuple aabb\n")?.is_none());
+    Ok(())
+}

@@ -1,0 +1,62 @@
+-- The problems that are read can be answered.
+use Rattle.std.proofs.Common.{◌≡◌, ℕ, ◌==◌, ltb, List, length, sym, ap, subst, Ok, Option, None, Some}
+use Rattle.wh_words.specs.Tuples.{TupleData, IsTuple}
+use Rattle.wh_words.proofs.StoredWords.{IsTuple-of}
+use Rattle.wh_text.specs.declared.command.Command.{Command}
+use Rattle.wh_text.specs.declared.command.Command.TheVariants as commands
+use Rattle.wh_text.specs.declared.read_error.ReadError.TheVariants as errors
+use Rattle.wh_text.specs.Lines.{lines}
+use Rattle.wh_text.specs.Readings.{◌>>=◌}
+use Rattle.wh_text.specs.Problems.{ProblemData, problem, problem_with, whole, lines_at, blank_sheet, most_bytes, one_tuple, two_tuples, decide_both}
+use Rattle.wh_text.specs.Problems.ProblemData.{reduce, decide}
+use Rattle.wh_text.specs.Laws.{IsTupleLine}
+use Rattle.wh_text.proofs.Equations.{bind_ok, ok_is, if_ok, unless_ok}
+use Rattle.wh_text.proofs.TextLaws.{reads_reduce_texts, reads_decide_texts}
+use Rattle.wh_answer.specs.Answers.{IsAnswerable}
+use Rattle.wh_answer.specs.Laws.{IsProblem}
+
+line_tuple : (n : ℕ) (line : List ℕ) (t : TupleData) → IsTupleLine n line t → IsTuple t
+line_tuple n line t l = subst IsTuple (sym l.cyclic) (IsTuple-of n l.written l.of_rank l.few l.short)
+
+line_rank : (n : ℕ) (line : List ℕ) (t : TupleData) → IsTupleLine n line t → t.rank ≡ n
+line_rank n line t l = ap (λ (u : TupleData). u.rank) l.cyclic
+
+-- ---- a problem is one of its command
+abbrev IsOf : Command → ProblemData → Type 0
+IsOf commands.Reduce (reduce t) = Unit {0}
+IsOf commands.Reduce (decide s t) = ⊥
+IsOf commands.Decide (reduce t) = ⊥
+IsOf commands.Decide (decide s t) = Unit {0}
+
+made_of : (command : Command) (ts : List TupleData) (p : ProblemData) → problem_with command ts ≡ Ok p → IsOf command p
+made_of commands.Reduce ts p e =
+    let one = bind_ok (one_tuple ts) (λ t. Ok (reduce t)) p e in
+    subst (IsOf commands.Reduce) (ok_is (reduce one.0) p one.2) tt
+made_of commands.Decide ts p e =
+    let both = bind_ok (two_tuples ts) (λ q. decide_both q.0 q.1) p e in
+    let made = if_ok (length both.0.0.words == length both.0.1.words) (errors.SizeMismatch (length both.0.0.words) (length both.0.1.words)) (Ok (decide both.0.0 both.0.1)) p both.2 in
+    subst (IsOf commands.Decide) (ok_is (decide both.0.0 both.0.1) p made.1) tt
+
+whole_of : (command : Command) (end : ℕ) (ts : List TupleData) (rank : Option ℕ) (p : ProblemData) → whole command end ts rank ≡ Ok p → IsOf command p
+whole_of command end ts None p e = absurd (cc)
+whole_of command end ts (Some n) p e = made_of command ts p e
+
+of_command : (command : Command) (bytes : List ℕ) (p : ProblemData) → problem command bytes ≡ Ok p → IsOf command p
+unfolding problem
+of_command command bytes p e =
+    let short = unless_ok (ltb most_bytes (length bytes)) (errors.InputTooLong most_bytes) (lines_at command 1 blank_sheet (lines bytes) >>= λ s. whole command s.1 s.0.tuples s.0.rank) p e in
+    let read = bind_ok (lines_at command 1 blank_sheet (lines bytes)) (λ s. whole command s.1 s.0.tuples s.0.rank) p short.1 in
+    whole_of command read.0.1 read.0.0.tuples read.0.0.rank p read.2
+
+-- ---- what is read
+pub read_problem : (command : Command) (bytes : List ℕ) (p : ProblemData) → problem command bytes ≡ Ok p → IsProblem p × IsAnswerable p
+read_problem commands.Reduce bytes (reduce t) e = let r = ((reads_reduce_texts bytes t).0 e).1 in ((line_tuple t.rank r.tuple_line t r.tuple, r.greatest), tt)
+read_problem commands.Reduce bytes (decide s t) e = absurd (of_command commands.Reduce bytes (decide s t) e)
+read_problem commands.Decide bytes (reduce t) e = absurd (of_command commands.Decide bytes (reduce t) e)
+read_problem commands.Decide bytes (decide s t) e =
+    let r = ((reads_decide_texts bytes s t).0 e).1 in
+    let ranks : s.rank ≡ t.rank = sym (line_rank s.rank r.second_line t r.second) in
+    ((line_tuple s.rank r.first_line s r.first, line_tuple s.rank r.second_line t r.second, ranks, r.greatest), (ranks, r.greatest, r.equal))
+
+pub answerable : (command : Command) (bytes : List ℕ) (p : ProblemData) → problem command bytes ≡ Ok p → IsAnswerable p
+answerable command bytes p e = (read_problem command bytes p e).1

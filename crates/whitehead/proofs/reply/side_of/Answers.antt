@@ -1,9 +1,0 @@
-use Rattle.std.proofs.Common.{sym, subst}
-use Rattle.wh_text.specs.FlowTexts.{HaveLines}
-use Rattle.whitehead.proofs.Sides.{flows_have_lines}
-use Rattle.whitehead.proofs.reply.side_of.Goals as goal
-
-pub returns-clause-printable : goal.returns-clause-printable
-returns-clause-printable c =
-    subst (HaveLines c.in_ok-trace.trace.end.plain.rank) (sym c.of.ensures)
-    (flows_have_lines c.in_ok-trace.trace.end.plain c.in_ok-flows.flows.items c.flows.ensures.roomed.tuple c.in_ok-flows.ensures.flows)
