@@ -1,0 +1,7 @@
+use Rattle.std.proofs.Common.{take}
+use Rattle.wh_cert.specs.Demands.{plains}
+use Rattle.wh_cert.specs.Listings.{HaveSameTuples}
+use Rattle.wh_cert.proofs.listed.Listed.of.Given as goal
+
+abbrev pub invariant-loop-tuple : goal.invariant-loop-tuple
+invariant-loop-tuple l = HaveSameTuples l.listed (plains (take l.tuple-index l.tuples))

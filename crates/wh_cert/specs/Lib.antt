@@ -1,0 +1,6 @@
+pub mod Rules
+pub mod Demands
+pub mod Checks
+pub mod Judged
+pub mod Listings
+pub mod CapacityTables

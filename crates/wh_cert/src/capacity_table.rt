@@ -1,0 +1,87 @@
+//! The capacities of all sets of letters of a rank.
+ghost use Rattle.std.specs.Prelude.{◌≡◌, ◌+◌, ◌*◌, ◌^◌, ◌<◌, ◌≤◌, OnOk, IfOk};
+ghost use Rattle.wh_flow.specs.Nets.{IsNet};
+ghost use Rattle.wh_cert.specs.CapacityTables.{IsTable, edges_into, set_capacity};
+
+use std::alloc::Global;
+use wh_flow::Net;
+use wh_graph::deg;
+use wh_words::{Letter, OutOfMemory};
+
+/// How many sets there are of so many letters.
+fn count_sets(letters: u8) -> usize
+    requires { letters ≤ 12 }
+    ensures { result ≡ 2 ^ letters }
+{
+    1 << letters
+}
+
+/// To the numbers of edges between `x` and the sets of letters before `y`, adds those for the same sets with `y`: each has
+/// the edges of the set without `y` and those between the two letters.
+fn double_edges(edges: &mut Vec<u32>, net: &Net, x: Letter, y: Letter) -> Result<(), OutOfMemory>
+    requires net { IsNet net.now }
+    requires letter { y < 52 }
+    requires edges { IsTable (edges_into net.now.cells x) (2 ^ y) edges.old.items }
+    ensures { OnOk result (IsTable (edges_into net.now.cells x) (2 ^ (y + 1)) edges.new.items) }
+{
+    let joining = net.cap_of(x, y);
+    for set in 0..edges.len() {
+        let count = edges[set] + joining;
+        edges.push(count)?;
+    }
+    Ok(())
+}
+
+/// How many edges join a letter to each set of letters before it.
+fn count_edges(edges: &mut Vec<u32>, net: &Net, x: Letter) -> Result<(), OutOfMemory>
+    requires { IsNet net.now }
+    ensures { OnOk result (IsTable (edges_into net.now.cells x) (2 ^ x) edges.new.items) }
+{
+    edges.clear();
+    edges.push(0)?;
+    for index in 0..x.index() {
+        double_edges(edges, net, x, Letter::of_index(index))?;
+    }
+    Ok(())
+}
+
+/// To the capacities of the sets of letters before `x`, adds those of the same sets with `x`: each is that of the set
+/// without `x` and the degree of `x`, less twice the edges between the two, which both of these count and which lead out
+/// of the set no more.
+fn double_capacities(
+    capacities: &mut Vec<u32>,
+    net: &Net,
+    x: Letter,
+    edges: &[u32],
+) -> Result<(), OutOfMemory>
+    requires net { IsNet net.now }
+    requires letter { x < 52 }
+    requires capacities { IsTable (set_capacity net.now.cells) (2 ^ x) capacities.old.items }
+    requires edges { IsTable (edges_into net.now.cells x) (2 ^ x) edges.now }
+    ensures { OnOk result (IsTable (set_capacity net.now.cells) (2 ^ (x + 1)) capacities.new.items) }
+{
+    let degree = deg(net, x);
+    for set in 0..edges.len() {
+        let capacity = capacities[set] + degree - 2 * edges[set];
+        capacities.push(capacity)?;
+    }
+    Ok(())
+}
+
+/// The capacities of all sets of letters of a network's rank, which is 6 at most, by the masks of the sets. They are found
+/// by adding one letter after another, and none of them afresh.
+pub(crate) fn capacity_table(alloc: Global, net: &Net) -> Result<Vec<u32>, OutOfMemory>
+    requires { net.now.rank ≤ 6 }
+    ensures { IfOk result (λ v. IsTable (set_capacity net.now.cells) (2 ^ (2 * net.now.rank)) v.items) }
+{
+    let letters = 2 * net.rank().get();
+    let mut capacities = Vec::with_capacity(alloc, count_sets(letters))?;
+    let mut edges = Vec::with_capacity(alloc, count_sets(letters - 1))?;
+    capacities.push(0)?;
+    for index in 0..letters {
+        let letter = Letter::of_index(index);
+        count_edges(&mut edges, net, letter)?;
+        double_capacities(&mut capacities, net, letter, &edges)?;
+    }
+    Ok(capacities)
+}

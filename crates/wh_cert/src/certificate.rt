@@ -1,0 +1,221 @@
+//! Judging a certificate.
+ghost use Rattle.std.specs.Prelude.{◌≡◌, ◌↔◌, ◌+◌, ◌*◌, ◌<◌, ◌≤◌, [], ◌∷◌, ◌++◌, length, get_or, IsTrue, IfOk};
+ghost use Rattle.std.specs.List.{All};
+ghost use Rattle.wh_words.specs.Tuples.{TupleData};
+ghost use Rattle.wh_cert.specs.declared.checked.Rule.TheVariants as rules;
+ghost use Rattle.wh_cert.specs.Demands.{Demand, rule_of, IsMet, fit_on_the_way, moves_carry, lengths_differ, lengths_agree, plains, level_asked, trace_asked, flows_asked, side_asked, sides_asked, verdict_asked, asked};
+ghost use Rattle.wh_cert.specs.Demands as spec;
+ghost use Rattle.wh_cert.specs.Checks.{Checks, IsNumbered, IsSideOfRank, IsVerdictOfRank, IsAnswerOfOneRank, verdict_flows, flow_lines};
+ghost use Rattle.wh_cert.specs.Judged.{Judges};
+
+use crate::checked::{Checked, Rule};
+use crate::levels::judge_level;
+use crate::sides::{carried, judge_flows, judge_trace};
+use crate::stop::{Stop, ask};
+use std::alloc::Global;
+use wh_moves::Move;
+use wh_text::{Answer, Numbered, Side, Verdict};
+use wh_words::{Letter, OutOfMemory, Rank, Tuple};
+
+/// How many lines come before the sides of a verdict.
+const BEFORE_SIDES: usize = 5;
+
+/// How many lines a side of a rank has.
+fn side_lines(rank: Rank) -> usize
+    ensures same { result ≡ spec.side_lines rank }
+    ensures few { result ≤ 28 }
+{
+    rank.get() as usize + 2
+}
+
+/// Judges the `moves` line, which is at a place.
+fn judge_moves(
+    alloc: Global,
+    place: usize,
+    first: &Tuple,
+    second: &Tuple,
+    moves: &[Move],
+) -> Result<(), Stop>
+    requires { All (λ m. m.rank ≡ first.now.plain.rank) moves.now }
+    ensures { Judges ((place, fit_on_the_way first.now.plain moves.now) ∷ (place, moves_carry first.now.plain moves.now second.now.plain) ∷ []) result }
+{
+    let Some(end) = carried(alloc, first, moves)? else {
+        return Err(Stop::Broken {
+            place,
+            rule: Rule::Long,
+        });
+    };
+    ask(place, Rule::Moves, end.same(second))
+}
+
+/// Judges the lines of a tuple's side, of which the first is at a place.
+fn judge_side(
+    alloc: Global,
+    place: usize,
+    heads: &[(Letter, u32)],
+    tuple: &Tuple,
+    side: &Side,
+) -> Result<(), Stop>
+    requires side { IsSideOfRank tuple.now.plain.rank side.now }
+    requires heads { tuple.now.plain.rank ≤ length heads.now }
+    requires low { place ≤ 500 }
+    ensures { Judges (side_asked place heads.now tuple.now.plain side.now) result }
+{
+    judge_trace(alloc, place, tuple, side)?;
+    judge_flows(place + 2, 0, heads, side)
+}
+
+/// Judges the lines of the second tuple's side, of which the first is at a place, where `met` tells whether what is asked
+/// of the lengths of the two ends is so.
+fn judge_second(
+    alloc: Global,
+    place: usize,
+    heads: &[(Letter, u32)],
+    tuple: &Tuple,
+    side: &Side,
+    met: bool,
+) -> Result<(), Stop>
+    requires side { IsSideOfRank tuple.now.plain.rank side.now }
+    requires heads { 2 * tuple.now.plain.rank ≤ length heads.now }
+    requires low { place ≤ 500 }
+    ensures { (lengths : Demand) → rules.Length ≡ rule_of lengths → (IsTrue met ↔ IsMet lengths) → Judges (trace_asked place tuple.now.plain side.now ++ ((place + 1, lengths) ∷ flows_asked (place + 2) tuple.now.plain.rank heads.now side.now)) result }
+{
+    judge_trace(alloc, place, tuple, side)?;
+    ask(place + 1, Rule::Length, met)?;
+    judge_flows(place + 2, tuple.rank().get() as usize, heads, side)
+}
+
+/// Judges the lines of two sides, where `met` tells whether what is asked of the lengths of the two ends is so.
+fn judge_sides(
+    alloc: Global,
+    heads: &[(Letter, u32)],
+    first: &Tuple,
+    second: &Tuple,
+    a: &Side,
+    b: &Side,
+    met: bool,
+) -> Result<(), Stop>
+    requires one_rank { second.now.plain.rank ≡ first.now.plain.rank }
+    requires a { IsSideOfRank first.now.plain.rank a.now }
+    requires b { IsSideOfRank first.now.plain.rank b.now }
+    requires heads { 2 * first.now.plain.rank ≤ length heads.now }
+    ensures { (lengths : TupleData → TupleData → Demand) → rules.Length ≡ rule_of (lengths a.now.end.plain b.now.end.plain) → (IsTrue met ↔ IsMet (lengths a.now.end.plain b.now.end.plain)) → Judges (sides_asked 5 first.now.plain.rank heads.now first.now.plain second.now.plain a.now b.now lengths) result }
+{
+    judge_side(alloc, BEFORE_SIDES, heads, first, a)?;
+    judge_second(
+        alloc,
+        BEFORE_SIDES + side_lines(first.rank()),
+        heads,
+        second,
+        b,
+        met,
+    )
+}
+
+/// Judges the sides of a no where the ends have different lengths.
+fn judge_no_length(
+    alloc: Global,
+    heads: &[(Letter, u32)],
+    first: &Tuple,
+    second: &Tuple,
+    a: &Side,
+    b: &Side,
+) -> Result<(), Stop>
+    requires one_rank { second.now.plain.rank ≡ first.now.plain.rank }
+    requires a { IsSideOfRank first.now.plain.rank a.now }
+    requires b { IsSideOfRank first.now.plain.rank b.now }
+    requires heads { 2 * first.now.plain.rank ≤ length heads.now }
+    ensures { Judges (sides_asked 5 first.now.plain.rank heads.now first.now.plain second.now.plain a.now b.now lengths_differ) result }
+{
+    let met = a.end.length() != b.end.length();
+    judge_sides(alloc, heads, first, second, a, b, met)
+}
+
+/// Judges the sides and the level of a no.
+fn judge_no_level(
+    alloc: Global,
+    heads: &[(Letter, u32)],
+    first: &Tuple,
+    second: &Tuple,
+    a: &Side,
+    b: &Side,
+    tuples: &[Tuple],
+) -> Result<(), Stop>
+    requires one_rank { second.now.plain.rank ≡ first.now.plain.rank }
+    requires a { IsSideOfRank first.now.plain.rank a.now }
+    requires b { IsSideOfRank first.now.plain.rank b.now }
+    requires heads { 2 * first.now.plain.rank ≤ length heads.now }
+    requires ranks { All (λ t. t.plain.rank ≤ 6) tuples.now }
+    ensures { Judges (sides_asked 5 first.now.plain.rank heads.now first.now.plain second.now.plain a.now b.now lengths_agree ++ level_asked (5 + 2 * spec.side_lines first.now.plain.rank) a.now.end.plain b.now.end.plain (plains tuples.now)) result }
+{
+    let met = a.end.length() == b.end.length();
+    judge_sides(alloc, heads, first, second, a, b, met)?;
+    let place = BEFORE_SIDES + 2 * side_lines(first.rank());
+    judge_level(alloc, place, &a.end, &b.end, tuples)
+}
+
+/// Judges the lines after the verdict on two tuples.
+fn judge_verdict(
+    alloc: Global,
+    heads: &[(Letter, u32)],
+    first: &Tuple,
+    second: &Tuple,
+    verdict: &Verdict,
+) -> Result<(), Stop>
+    requires one_rank { second.now.plain.rank ≡ first.now.plain.rank }
+    requires verdict { IsVerdictOfRank first.now.plain.rank verdict.now }
+    requires heads { length heads.now ≡ verdict_flows first.now.plain.rank verdict.now }
+    ensures { Judges (verdict_asked heads.now first.now.plain second.now.plain verdict.now) result }
+{
+    match verdict {
+        Verdict::Yes(moves) => judge_moves(alloc, BEFORE_SIDES, first, second, moves.items()),
+        Verdict::NoLength(a, b) => judge_no_length(alloc, heads, first, second, a, b),
+        Verdict::NoLevel(a, b, tuples) => {
+            judge_no_level(alloc, heads, first, second, a, b, tuples.items())
+        }
+        // No certificate has this verdict.
+        Verdict::Undecided(_) => Ok(()),
+    }
+}
+
+/// Judges the lines of an answer whose `flow` lines name these letters and values.
+fn judge_answer(alloc: Global, heads: &[(Letter, u32)], answer: &Answer) -> Result<(), Stop>
+    requires answer { IsAnswerOfOneRank answer.now }
+    requires heads { length heads.now ≡ flow_lines answer.now }
+    ensures { Judges (asked heads.now answer.now) result }
+{
+    match answer {
+        Answer::Reduce { tuple, side } => judge_side(alloc, 3, heads, tuple, side),
+        Answer::Decide {
+            first,
+            second,
+            verdict,
+        } => judge_verdict(alloc, heads, first, second, verdict),
+    }
+}
+
+/// The number of the line at a place.
+fn number_at(lines: &[u32], place: usize) -> u32
+    requires { place < length lines.now }
+    ensures { result ≡ get_or lines.now place 0 }
+{
+    lines[place]
+}
+
+/// Judges a certificate, that is an answer of `reduce` or `decide` that was read from a text, by rules alone: `Valid`, or
+/// the first line that breaks a rule with the first rule that it breaks. Every move is made, every flow is tested, and
+/// every swap, every inversion and every set of letters is tried as a level move; nothing is taken from the search for the
+/// answer (Lyndon and Schupp, I.4; Roig, Ventura and Weil 2007).
+pub fn check(alloc: Global, numbered: &Numbered) -> Result<Checked, OutOfMemory>
+    requires { IsNumbered numbered.now }
+    ensures { IfOk result (Checks numbered.now) }
+{
+    match judge_answer(alloc, numbered.flow_heads.items(), &numbered.answer) {
+        Ok(()) => Ok(Checked::Valid),
+        Err(Stop::Broken { place, rule }) => Ok(Checked::Invalid {
+            line: number_at(numbered.lines.items(), place),
+            rule,
+        }),
+        Err(Stop::OutOfMemory) => Err(OutOfMemory),
+    }
+}

@@ -1,0 +1,107 @@
+//! The lines of a level.
+ghost use Rattle.std.specs.Prelude.{◌↔◌, ◌+◌, ◌<◌, ◌≤◌, List, [], ◌∷◌, length, Contains, IsTrue, IfOk};
+ghost use Rattle.std.specs.List.{All};
+ghost use Rattle.wh_words.specs.Tuples.{TupleData};
+ghost use Rattle.wh_cert.specs.Demands.{Rises, rises, has_height, is_absent, is_closed, tuple_at, plains, asked_below, at_asked, level_asked};
+ghost use Rattle.wh_cert.specs.Listings.{HaveSameTuples, IsRoomy};
+ghost use Rattle.wh_cert.specs.Judged.{Judges};
+
+use crate::checked::Rule;
+use crate::images::images_are_in;
+use crate::listed::Listed;
+use crate::stop::{Stop, ask};
+use std::alloc::Global;
+use wh_words::{OutOfMemory, Tuple};
+
+/// Whether a tuple is greater than the one before it, if any.
+fn is_greater(tuples: &[Tuple], k: usize) -> bool
+    requires { k < length tuples.now }
+    ensures { IsTrue result ↔ Rises (plains tuples.now) k }
+{
+    if k == 0 {
+        return true;
+    }
+    tuples[k - 1].compared(&tuples[k]).is_lt()
+}
+
+/// Judges what rules ask of one tuple of a level, in the line at a place, but for its images.
+fn judge_tuple(
+    place: usize,
+    root: &Tuple,
+    second: &Tuple,
+    tuples: &[Tuple],
+    k: usize,
+) -> Result<(), Stop>
+    requires { k < length tuples.now }
+    ensures { Judges ((place, rises (plains tuples.now) k) ∷ (place, has_height root.now.plain (tuple_at (plains tuples.now) k)) ∷ (place, is_absent second.now.plain (tuple_at (plains tuples.now) k)) ∷ []) result }
+{
+    ask(place, Rule::Sorted, is_greater(tuples, k))?;
+    ask(place, Rule::Height, tuples[k].length() == root.length())?;
+    ask(place, Rule::Absent, !tuples[k].same(second))
+}
+
+/// Judges the images of a tuple of a level, in the line at a place.
+fn judge_images(
+    alloc: Global,
+    place: usize,
+    listed: &Listed,
+    tuple: &Tuple,
+    image: &mut Tuple,
+) -> Result<(), Stop>
+    requires rank { tuple.now.plain.rank ≤ 6 }
+    requires own { Contains listed.now tuple.now.plain }
+    requires roomy { IsRoomy image.old }
+    ensures judges { (ts : List TupleData) → HaveSameTuples listed.now ts → Judges ((place, is_closed ts tuple.now.plain) ∷ []) result }
+    ensures roomy { IsRoomy image.new }
+{
+    // The proof takes from this call that it is a tuple.
+    tuple.rank();
+    let closed = images_are_in(alloc, listed, tuple, image)?;
+    ask(place, Rule::Closed, closed)
+}
+
+/// A tuple without words, in whose rooms every tuple fits.
+fn roomy(alloc: Global, tuple: &Tuple) -> Result<Tuple, OutOfMemory>
+    ensures { IfOk result IsRoomy }
+{
+    Tuple::with_room(alloc, tuple.rank(), 64, 4096)
+}
+
+/// Judges the `at` lines of a level of rank 6 at most, of which the first is at a place.
+fn judge_tuples(
+    alloc: Global,
+    place: usize,
+    root: &Tuple,
+    second: &Tuple,
+    tuples: &[Tuple],
+    listed: &Listed,
+) -> Result<(), Stop>
+    requires ranks { All (λ t. t.plain.rank ≤ 6) tuples.now }
+    requires same { HaveSameTuples listed.now (plains tuples.now) }
+    requires low { place ≤ 1000 }
+    ensures { Judges (asked_below (at_asked place root.now.plain second.now.plain (plains tuples.now)) (length (plains tuples.now))) result }
+{
+    let mut image = roomy(alloc, root)?;
+    for k in 0..tuples.len() {
+        judge_tuple(place + k, root, second, tuples, k)?;
+        judge_images(alloc, place + k, listed, &tuples[k], &mut image)?;
+    }
+    Ok(())
+}
+
+/// Judges the `level` line, which is at a place, and the `at` lines of a level of rank 6 at most.
+pub(crate) fn judge_level(
+    alloc: Global,
+    place: usize,
+    root: &Tuple,
+    second: &Tuple,
+    tuples: &[Tuple],
+) -> Result<(), Stop>
+    requires ranks { All (λ t. t.plain.rank ≤ 6) tuples.now }
+    requires low { place < 1000 }
+    ensures { Judges (level_asked place root.now.plain second.now.plain (plains tuples.now)) result }
+{
+    let listed = Listed::of(alloc, tuples)?;
+    ask(place, Rule::Root, listed.has(root))?;
+    judge_tuples(alloc, place + 1, root, second, tuples, &listed)
+}
