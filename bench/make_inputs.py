@@ -36,9 +36,19 @@ def primitive(rng, rank, least, most):
     return words[0]
 
 
-def write(name, comment, rank, words):
-    line = " ".join(["tuple"] + [text(word) for word in words])
-    (ROOT / "inputs" / f"{name}.txt").write_text(f"# {comment}\nrank {rank}\n{line}\n")
+def write(name, comment, rank, *tuples):
+    lines = [" ".join(["tuple"] + [text(word) for word in words]) for words in tuples]
+    (ROOT / "inputs" / f"{name}.txt").write_text("\n".join([f"# {comment}", f"rank {rank}", *lines]) + "\n")
+
+
+def surface(genus):
+    """The boundary of a surface of this genus with one hole: a product of commutators."""
+    return [x for g in range(genus) for x in (4 * g, 4 * g + 2, 4 * g + 1, 4 * g + 3)]
+
+
+def squares(count):
+    """The boundary of a surface with one hole that is glued together of so many projective planes."""
+    return [x for g in range(count) for x in (2 * g, 2 * g)]
 
 
 def main():
@@ -51,6 +61,12 @@ def main():
         write(f"primitive_rank{rank}", "A primitive word of about 4,000 letters.", rank, [primitive(rng, rank, 3000, 4000)])
     write("alphabet_rank26", "The product of all generators.", 26, [[2 * g for g in range(26)]])
     write("many_words_rank6", "64 random words of 60 letters.", 6, [reduced(rng, 6, 60) for _ in range(64)])
+    for rank in (4, 6):
+        basis = [[2 * g] for g in range(rank)]
+        write(f"level_rank{rank}", "A basis and the same in reverse order.", rank, basis, basis[::-1])
+    write("no_level_rank4", "Surface words of two surfaces.", 4, [surface(2)], [squares(4)])
+    write("passed_rank6", "Surface words of two surfaces, whose level is larger than 10,000 tuples.", 6, [surface(3)], [squares(6)])
+    write("words_rank3", "Twenty words of three letters and more, and the same with every generator inverted.", 3, *[[[x ^ flip for x in word] for word in ([0, 2, 4] * (k % 3 + 1) + [2 * (k % 3)] * (k % 4) for k in range(20))] for flip in (0, 1)])
 
 
 if __name__ == "__main__":
