@@ -16,10 +16,10 @@ use Rattle.wh_words.specs.Moves.{Move, Kind, IsKind, IsCut, IsIdentityCut, cut_m
 use Rattle.wh_words.specs.Moves.Kind.{swap, invert, cut}
 use Rattle.wh_words.specs.Levels.{IsLevelMove}
 use Rattle.wh_words.specs.Edges.{cap, deg}
+use Rattle.wh_graph.proofs.LevelMoves.{made_swap_level, made_invert_level, made_cut_level, level_cut}
 use Rattle.wh_expand.specs.FirstLevelMoves.{AreLevelMovesBefore}
 use Rattle.wh_expand.specs.Rows.{AreLevelMoves}
 use Rattle.wh_expand.proofs.KindOrder.{Follows, none_before, all_before, next_swap, next_invert, next_cut, after_swaps, after_inversions, after_multiplier}
-use Rattle.wh_expand.proofs.KeptLengths.{swap_level, invert_level, cut_level, level_cut}
 
 -- ---- a greater move at the end
 sorted_push : (ms : List Move) (m : Move) → IsStrictlySortedBy move_cmp ms → All (λ x. move_cmp x m ≡ Less) ms → IsStrictlySortedBy move_cmp (ms ++ m ∷ [])
@@ -86,16 +86,12 @@ module _ (t : TupleData) (is : IsTuple t) (n : ℕ) (same : n ≡ t.rank) (rank 
   pub push_swap : IfSome r (λ x. x ≡ record { rank = n; kind = swap k }) → k < n → AreLevelMovesBefore t (swap k) ms → AreLevelMovesBefore t (swap (k + 1)) (ms ++ m ∷ [])
   push_swap swaps l are =
       let e : m ≡ record { rank = n; kind = swap k } = MatchOption-at_some (Unit {0}) (λ x. x ≡ record { rank = n; kind = swap k }) m made swaps in
-      let level : IsLevelMove t (record { rank = n; kind = swap k }) =
-      subst (λ (x : ℕ). IsLevelMove t (record { rank = x; kind = swap k })) (sym same) (swap_level t is (omega (arith, rank, same)) k low (omega (arith, l, same))) in
-      push_level t (swap k) (swap (k + 1)) ms are (next_swap t.rank k) m (subst (IsLevelMove t) (sym e) level) (ap (λ (x : Move). x.kind) e)
+      push_level t (swap k) (swap (k + 1)) ms are (next_swap t.rank k) m (made_swap_level t is n same (omega (arith, rank, same)) m k e low l) (ap (λ (x : Move). x.kind) e)
 
   pub push_inversion : IfSome r (λ x. x ≡ record { rank = n; kind = invert k }) → k ≤ n → AreLevelMovesBefore t (invert k) ms → AreLevelMovesBefore t (invert (k + 1)) (ms ++ m ∷ [])
   push_inversion inverts l are =
       let e : m ≡ record { rank = n; kind = invert k } = MatchOption-at_some (Unit {0}) (λ x. x ≡ record { rank = n; kind = invert k }) m made inverts in
-      let level : IsLevelMove t (record { rank = n; kind = invert k }) =
-      subst (λ (x : ℕ). IsLevelMove t (record { rank = x; kind = invert k })) (sym same) (invert_level t is (omega (arith, rank, same)) k low (omega (arith, l, same))) in
-      push_level t (invert k) (invert (k + 1)) ms are (next_invert t.rank k) m (subst (IsLevelMove t) (sym e) level) (ap (λ (x : Move). x.kind) e)
+      push_level t (invert k) (invert (k + 1)) ms are (next_invert t.rank k) m (made_invert_level t is n same (omega (arith, rank, same)) m k e low l) (ap (λ (x : Move). x.kind) e)
 
 module _ (t : TupleData) (ms : List Move) where
   pub all_swaps : (k : ℕ) → AreLevelMovesBefore t (swap k) ms → t.rank ≤ k → AreLevelMovesBefore t (invert 1) ms
@@ -153,8 +149,5 @@ module _ (t : TupleData) (ms : List Move) where
 
     pub push_set : IsTuple t → n ≤ 26 → IsCut n a set → cap (in_set set) t ≡ deg a t → ¬ (IsIdentityCut m.kind) → AreLevelMovesBefore t (cut a (set + 1)) (ms ++ m ∷ [])
     push_set is rank v keeps moves =
-        let of_rank_t : m ≡ cut_move t.rank a set = e ∙ ap (λ k. cut_move k a set) same in
-        let not_identity : set ≢ 2 ^ a = λ q. moves (subst IsIdentityCut (sym (ap (λ (x : Move). x.kind) e)) q) in
-        push_level t (cut a set) (cut a (set + 1)) ms are (next_cut t.rank a set) m
-        (subst (IsLevelMove t) (sym of_rank_t) (cut_level t is (omega (arith, rank, same)) a set (subst (λ (k : ℕ). IsCut k a set) same v) keeps not_identity))
+        push_level t (cut a set) (cut a (set + 1)) ms are (next_cut t.rank a set) m (made_cut_level t is n same (omega (arith, rank, same)) m a set e v keeps moves)
         (ap (λ (x : Move). x.kind) e)

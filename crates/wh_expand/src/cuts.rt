@@ -4,12 +4,11 @@ ghost use Rattle.wh_words.specs.LetterSets.{in_set};
 ghost use Rattle.wh_words.specs.Tuples.{IsTuple};
 ghost use Rattle.wh_words.specs.Moves.Kind.{cut};
 ghost use Rattle.wh_words.specs.Edges.{cap, deg};
-ghost use Rattle.wh_expand.specs.CapacityTables.{IsTable, tuple_capacity};
+ghost use Rattle.wh_graph.specs.CapacityTables.{IsTable, tuple_capacity};
 ghost use Rattle.wh_expand.specs.FirstLevelMoves.{AreLevelMovesBefore};
 
-use crate::capacity_table::{capacity_table, count_sets};
 use std::alloc::Global;
-use wh_graph::{deg, graph};
+use wh_graph::{capacity_table, count_sets, deg, graph};
 use wh_moves::Move;
 use wh_words::{Letter, LetterSet, OutOfMemory, Tuple};
 

@@ -1,7 +1,6 @@
 //! The level moves of a tuple.
 #![tactic(auto)]
 
-mod capacity_table;
 mod cuts;
 mod row;
 

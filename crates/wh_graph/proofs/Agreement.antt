@@ -1,5 +1,5 @@
 -- The steps and traces by lengths and by capacities are the same.
-use Rattle.std.proofs.Common.{◌≡◌, ℕ, ◌+◌, ◌*◌, ◌/◌, ◌%◌, ◌<◌, ◌≤◌, Bool, true, false, not, ◌&&◌, ◌||◌, List, [], ◌∷◌, refl, sym, ap, ◌∙◌, subst, inl, inr, ◌⊎◌, arith}
+use Rattle.std.proofs.Common.{◌≡◌, ℕ, ◌*◌, ◌/◌, ◌<◌, ◌≤◌, Bool, true, not, ◌&&◌, ◌||◌, List, [], ◌∷◌, refl, sym, ap, ◌∙◌, subst, inl, inr, arith}
 use Rattle.std.proofs.lemmas.Bool.{cases_eq, cases_lt, and_from, and_parts, or_left, and_left, or_from}
 use Rattle.std.proofs.lemmas.Nat.Bits.{bit_at_above}
 use Rattle.std.specs.Int.{bit_at}
@@ -13,21 +13,13 @@ use Rattle.wh_words.specs.Traces.{IsFlatAt, IsShortestCut, IsStep, IsTrace}
 use Rattle.wh_words.specs.Traces.IsTrace.{done, step}
 use Rattle.wh_words.specs.CapacityTraces.{IsSubset, IsTight, IsTightAt, IsLeastCapacityCut, IsCapacityStep, IsCapacityTrace}
 use Rattle.wh_words.specs.CapacityTraces.IsCapacityTrace.{done as tight_end, step as cut_step}
-use Rattle.wh_words.proofs.FreeReduction.{inverse-inverse}
 use Rattle.wh_words.proofs.ImageLetters.{act_tuple}
 use Rattle.wh_graph.specs.Laws.{FlatIsTight, StepsAgree, TracesAgree}
-use Rattle.wh_graph.proofs.EdgeCounts.{cap_same, complement_cap, submodular, inverse_below}
+use Rattle.wh_graph.proofs.EdgeCounts.{cap_same, complement_cap, submodular}
 use Rattle.wh_graph.proofs.Degrees.{inverse_degree}
 use Rattle.wh_graph.proofs.Lengths.{length_law}
+use Rattle.wh_graph.proofs.ComplementCuts.{inverse_even, generator_of, complement, complement_cut}
 use Rattle.wh_graph.proofs.SetNumbers.{mask, mask_lt, mask_has, mask_cut, holds, omits, holds_back, subset_le}
-
-inverse_even : (g : ℕ) → inverse_letter (2 * g) ≡ 2 * g + 1
-unfolding inverse_letter
-inverse_even g = omega arith
-
--- a letter is a generator or the inverse of one
-generator_of : (a : ℕ) → (a ≡ 2 * (a / 2)) ⊎ (a ≡ inverse_letter (2 * (a / 2)))
-generator_of a = elim (cases_eq (a % 2) 0) [ inl e ↦ inl (omega (arith, e)) | inr n ↦ inr (omega (arith, n, inverse_even (a / 2))) ]
 
 module _ (t : TupleData) (is : IsTuple t) where
   -- ---- one multiplier
@@ -45,12 +37,7 @@ module _ (t : TupleData) (is : IsTuple t) where
   tight_inverse : (a : ℕ) → IsTightAt t a → IsTightAt t (inverse_letter a)
   tight_inverse a tight set valid =
       let others : ℕ → Bool = λ x. not (in_set set x) in
-      let back : inverse_letter (inverse_letter a) ≡ a = inverse-inverse a in
-      let below : a < 2 * t.rank = subst (λ (x : ℕ). x < 2 * t.rank) back (inverse_below t.rank (inverse_letter a) valid.of_rank) in
-      let without : in_set set a ≡ false = omits set a (subst (λ (x : ℕ). bit_at set x ≡ 0) back valid.omits) in
-      let with : in_set set (inverse_letter a) ≡ true = holds set (inverse_letter a) valid.holds in
-      let other : IsCut t.rank a (mask (2 * t.rank) others) = mask_cut t.rank a others below (ap not without) (ap not with) in
-      omega (arith, tight (mask (2 * t.rank) others) other, mask_cap others, complement_cap t (in_set set) others is (λ x l. refl), inverse_degree t a is)
+      omega (arith, tight (complement t.rank set) (complement_cut t.rank a set valid), mask_cap others, complement_cap t (in_set set) others is (λ x l. refl), inverse_degree t a is)
 
   tight_everywhere : IsTight t → (a : ℕ) → IsTightAt t a
   tight_everywhere tight a = elim (generator_of a) [

@@ -2,8 +2,12 @@ pub mod EdgeCounts
 pub mod Degrees
 pub mod Lengths
 pub mod SetNumbers
+pub mod ComplementCuts
 pub mod Agreement
 pub mod EdgeTables
 pub mod NetworkCuts
 pub mod CellSums
 pub mod WordLoops
+pub mod CapacitySums
+pub mod SetTables
+pub mod LevelMoves

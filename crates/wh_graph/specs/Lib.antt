@@ -1,2 +1,3 @@
 pub mod Graphs
+pub mod CapacityTables
 pub mod Laws

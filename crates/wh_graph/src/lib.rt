@@ -4,8 +4,10 @@
 mod capacity;
 pub mod laws;
 mod length_law;
+mod set_capacities;
 mod whitehead;
 
 pub use capacity::{cap, deg};
 pub use length_law::new_length;
+pub use set_capacities::{capacity_table, count_sets};
 pub use whitehead::graph;

@@ -1,32 +1,26 @@
 -- The laws of levels.
-use Rattle.std.proofs.Common.{◌≡◌, ◌≢◌, ◌⊎◌, ℕ, zero, suc, ◌/◌, ◌≤◌, ◌^◌, Bool, true, false, cond, ◌==◌, List, [], ◌∷◌, ◌++◌, length, map, Contains, refl, sym, ap, ◌∙◌, subst, arith, inl, inr}
-use Rattle.std.proofs.lemmas.Bool.{true≢false, cases_eq, eq-eqb, ne_eqb}
+use Rattle.std.proofs.Common.{◌≡◌, ◌⊎◌, zero, suc, ◌≤◌, true, false, List, [], ◌∷◌, length, Contains, refl, sym, ap, ◌∙◌, subst, arith, inl, inr}
+use Rattle.std.proofs.lemmas.Bool.{true≢false}
 use Rattle.std.proofs.lemmas.Cmp.{eq_by_cmp_equiv}
-use Rattle.std.proofs.lemmas.List.Elements.{All-contains, Contains-append_right, All-head, All-tail}
+use Rattle.std.proofs.lemmas.List.Elements.{All-contains, Contains-append_right}
 use Rattle.std.proofs.lemmas.Map.Keys.{sorted_tail}
 use Rattle.std.proofs.lemmas.Map.Views.{All-after_first, Contains-from_any, list_any-from_Contains, tells_apart}
 use Rattle.std.proofs.lemmas.Map.Made.{length-le_from_is_member}
-use Rattle.std.proofs.lemmas.Nat.Bits.{bit_at-pow_other}
 use Rattle.std.specs.Cmp.{IsTotalOrder, on_total, then_total, nat_cmp_total}
 use Rattle.std.specs.Cmp.Lexicographic.{slice_cmp, lists_total, nat_list_cmp_total}
-use Rattle.std.specs.List.{All, IsDistinct}
+use Rattle.std.specs.List.{IsDistinct}
 use Rattle.std.specs.List.Sorted.{IsStrictlySortedBy}
 use Rattle.std.specs.Ordering.{is_lt, is_gt, eq_by_cmp, ordering_reverse}
 use Rattle.std.specs.declared.cmp.Ordering.{Ordering}
 use Rattle.std.specs.declared.cmp.Ordering.TheVariants.{Less, Equal, Greater}
-use Rattle.wh_words.specs.Letters.{inverse_letter}
-use Rattle.wh_words.specs.LetterSets.{in_set}
-use Rattle.wh_words.specs.CyclicWords.{cyclic_word}
 use Rattle.wh_words.specs.Tuples.{TupleData, IsTuple, tuple_cmp}
 use Rattle.wh_words.specs.TupleTies.{same_from_tied}
-use Rattle.wh_words.specs.Moves.{Kind, Move, IsIdentityCut, move_cmp}
-use Rattle.wh_words.specs.Moves.Kind.{swap, invert, cut}
-use Rattle.wh_words.specs.Images.{image}
-use Rattle.wh_words.specs.Action.{act, act_all, substitute}
+use Rattle.wh_words.specs.Moves.{Move, move_cmp}
+use Rattle.wh_words.specs.Action.{act, act_all}
 use Rattle.wh_words.specs.Levels.{Reaches, InLevel}
 use Rattle.wh_words.specs.Levels.Reaches.{here, step}
-use Rattle.wh_words.proofs.FreeReduction.{inverse_generator}
 use Rattle.wh_words.proofs.ImageLetters.{act_tuple}
+use Rattle.wh_moves.proofs.IdentityCuts.{identity_acts, identity_or_not}
 use Rattle.wh_level.specs.Laws.{KeepsLength, LevelIsWhatIsReached, LevelIsUnique, LimitIsExact, FirstWalkIsUnique}
 use Rattle.wh_level.specs.Laws.KeepsLength.{done as kept_done, step as kept_step}
 use Rattle.wh_level.proofs.Shortlex.{move_cmp_total, same_moves}
@@ -100,7 +94,7 @@ first_walk_unique root t ms ns p q =
 pub tied : (s t : TupleData) → eq_by_cmp tuple_cmp s t ≡ true → s ≡ t
 tied = tells_apart same_from_tied
 
-no_more : (ts us : List TupleData) → IsDistinct (eq_by_cmp tuple_cmp) us → ((t : TupleData) → Contains us t → Contains ts t) → length us ≤ length ts
+pub no_more : (ts us : List TupleData) → IsDistinct (eq_by_cmp tuple_cmp) us → ((t : TupleData) → Contains us t → Contains ts t) → length us ≤ length ts
 no_more ts us d within =
     length-le_from_is_member (eq_by_cmp_equiv tuple_cmp_total) us ts d
     (λ t h. list_any-from_Contains (eq_by_cmp_equiv tuple_cmp_total) t ts (within t (Contains-from_any tied t us h)))
@@ -108,51 +102,6 @@ no_more ts us d within =
 pub limit_exact : LimitIsExact
 limit_exact root ts limit l m few =
     omega (arith, m.more, no_more ts m.tuples m.distinct (λ t c. (l.exact t).1 (All-contains (InLevel root) m.tuples t m.within c)), few)
-
--- ---- identity cuts
-own_image : (a set x : ℕ) → x / 2 ≡ a / 2 → image (cut a set) x ≡ x ∷ []
-own_image a set x e = ap (λ (b : Bool). cond b (x ∷ []) (cond (in_set set (inverse_letter x)) (inverse_letter a ∷ []) [] ++ x ∷ cond (in_set set x) (a ∷ []) [])) (eq-eqb (x / 2) (a / 2) e)
-
-other_image : (a set x : ℕ) → x / 2 ≢ a / 2 → in_set set (inverse_letter x) ≡ false → in_set set x ≡ false → image (cut a set) x ≡ x ∷ []
-other_image a set x n h k =
-    ap (λ (b : Bool). cond b (x ∷ []) (cond (in_set set (inverse_letter x)) (inverse_letter a ∷ []) [] ++ x ∷ cond (in_set set x) (a ∷ []) [])) (ne_eqb (x / 2) (a / 2) n)
-    ∙ ap (λ (b : Bool). cond b (inverse_letter a ∷ []) [] ++ x ∷ cond (in_set set x) (a ∷ []) []) h
-    ∙ ap (λ (b : Bool). x ∷ cond b (a ∷ []) []) k
-
-not_alone : (a x : ℕ) → x ≢ a → in_set (2 ^ a) x ≡ false
-not_alone a x n = ap (λ b. b == 1) (bit_at-pow_other a x n)
-
-identity_image : (a x : ℕ) → image (cut a (2 ^ a)) x ≡ x ∷ []
-identity_image a x = elim (cases_eq (x / 2) (a / 2)) [
-  | inl e ↦ own_image a (2 ^ a) x e
-  | inr n ↦ other_image a (2 ^ a) x n
-      (not_alone a (inverse_letter x) (λ e. n (sym (inverse_generator x) ∙ ap (λ y. y / 2) e)))
-      (not_alone a x (λ e. n (ap (λ y. y / 2) e)))
-]
-
-identity_word : (a : ℕ) (w : List ℕ) → substitute (cut a (2 ^ a)) w ≡ w
-identity_word a [] = refl
-identity_word a (x ∷ w) = ap (λ u. u ++ substitute (cut a (2 ^ a)) w) (identity_image a x) ∙ ap (λ u. x ∷ u) (identity_word a w)
-
-identity_words : (a : ℕ) (ws : List (List ℕ)) → All (λ w. cyclic_word w ≡ w) ws → map (λ w. cyclic_word (substitute (cut a (2 ^ a)) w)) ws ≡ ws
-identity_words a [] c = refl
-identity_words a (w ∷ ws) c =
-    ap (λ v. v ∷ map (λ w. cyclic_word (substitute (cut a (2 ^ a)) w)) ws) (ap cyclic_word (identity_word a w) ∙ All-head (λ v. cyclic_word v ≡ v) w ws c)
-    ∙ ap (λ vs. w ∷ vs) (identity_words a ws (All-tail (λ v. cyclic_word v ≡ v) w ws c))
-
-identity_kind : (k : Kind) (t : TupleData) → IsTuple t → IsIdentityCut k → map (λ w. cyclic_word (substitute k w)) t.words ≡ t.words
-identity_kind (swap j) t is h = absurd h
-identity_kind (invert j) t is h = absurd h
-identity_kind (cut a set) t is h = ap (λ (s : ℕ). map (λ w. cyclic_word (substitute (cut a s) w)) t.words) h ∙ identity_words a t.words is.cyclic
-
--- An identity cut leaves a tuple as it is.
-pub identity_acts : (t : TupleData) (m : Move) → IsTuple t → IsIdentityCut m.kind → act t m ≡ t
-identity_acts t m is h = ap (λ (ws : List (List ℕ)). record { rank = t.rank; words = ws }) (identity_kind m.kind t is h)
-
-identity_or_not : (k : Kind) → IsIdentityCut k ⊎ ¬ (IsIdentityCut k)
-identity_or_not (swap j) = inr (λ h. h)
-identity_or_not (invert j) = inr (λ h. h)
-identity_or_not (cut a set) = cases_eq set (2 ^ a)
 
 -- ---- lists of moves that keep the length
 pub kept_from_reaches : {t u : TupleData} {ms : List Move} → Reaches t ms u → KeepsLength t ms × (act_all t ms ≡ u)

@@ -1,4 +1,4 @@
-//! The tree of a level, for itself.
+//! The type of the tree of a level: from which tuple each tuple is first reached, and by which move.
 use wh_moves::Move;
 use wh_words::List;
 

@@ -1,14 +1,9 @@
 -- Tuples that are a whole level miss nothing, and the sealed level has just as many, for `closed`.
-use Rattle.std.proofs.Common.{◌≡◌, true, List, [], ◌∷◌, length, map, refl, sym, subst, arith, ⊎_elim}
+use Rattle.std.proofs.Common.{◌≡◌, List, [], ◌∷◌, length, map, refl, sym, subst, arith, ⊎_elim}
 use Rattle.std.specs.Prelude.{Contains}
-use Rattle.std.specs.List.{All, list_any}
-use Rattle.std.specs.Ordering.{eq_by_cmp}
+use Rattle.std.specs.List.{All}
 use Rattle.std.proofs.lemmas.List.{get_or-map, length-map}
-use Rattle.std.proofs.lemmas.Cmp.{eq_by_cmp_equiv}
 use Rattle.std.proofs.lemmas.Map.Keys.{IsDistinct-from_sorted}
-use Rattle.std.proofs.lemmas.Map.Made.{length-le_from_is_member}
-use Rattle.std.proofs.lemmas.Map.Views.{list_any-from_Contains}
-use Rattle.indexmap.proofs.CallerLemmas.{Contains-list_any}
 use Rattle.wh_words.specs.Tuples.{TupleData, Tuple, tuple_cmp}
 use Rattle.wh_words.specs.Levels.{InLevel}
 use Rattle.wh_expand.specs.Rows.{row_tuple}
@@ -16,7 +11,7 @@ use Rattle.wh_expand.specs.declared.row.Row.{Row}
 use Rattle.wh_level.specs.Trees.{LevelData}
 use Rattle.wh_level.specs.Sealings.{Seals}
 use Rattle.wh_level.specs.declared.sealing.Sealed.TheVariants.{Closed, Missing}
-use Rattle.wh_level.proofs.LawProofs.{tuple_cmp_total, tied}
+use Rattle.wh_level.proofs.LawProofs.{no_more}
 use Rattle.wh_workers.specs.Explorations.{IsWhole}
 
 pub whole_within : (root : TupleData) (rows : List Row) → IsWhole root (map row_tuple rows) → All (λ r. InLevel root (row_tuple r)) rows
@@ -30,12 +25,11 @@ nothing_missed root ts (t ∷ list) whole seals =
     let missed = (seals.2 t.plain).0 (0, omega arith, refl) in
     missed.absent (⊎_elim (λ e. subst (Contains ts) (sym e) whole.rooted) (λ image. whole.images t.plain image) missed.wanted)
 
-no_longer : (xs ys : List TupleData) → ((t : TupleData) → Contains xs t → Contains ys t) → (q : TupleData) → list_any (eq_by_cmp tuple_cmp q) xs ≡ true → list_any (eq_by_cmp tuple_cmp q) ys ≡ true
-no_longer xs ys sub q h = list_any-from_Contains (eq_by_cmp_equiv tuple_cmp_total) q ys (sub q (Contains-list_any (eq_by_cmp tuple_cmp) tied xs q h))
-
 -- The level that they are has as many tuples.
 pub whole_count : (root : TupleData) (ts : List TupleData) (level : LevelData) → IsWhole root ts → Seals root ts (Closed level) → length level.tuples ≡ length ts
 whole_count root ts level whole seals =
-    let one = length-le_from_is_member (eq_by_cmp_equiv tuple_cmp_total) level.tuples ts (IsDistinct-from_sorted tuple_cmp level.tuples seals.0.level.sorted) (no_longer level.tuples ts (λ t. (seals.2 t).0)) in
-    let other = length-le_from_is_member (eq_by_cmp_equiv tuple_cmp_total) ts level.tuples whole.distinct (no_longer ts level.tuples (λ t. (seals.2 t).1)) in
-    omega (arith, one, other)
+    omega (
+      arith,
+      no_more ts level.tuples (IsDistinct-from_sorted tuple_cmp level.tuples seals.0.level.sorted) (λ t. (seals.2 t).0),
+      no_more level.tuples ts whole.distinct (λ t. (seals.2 t).1),
+    )

@@ -2,7 +2,7 @@ use Rattle.std.proofs.Common.{◌≡◌, ◌*◌, ◌∙◌, subst, arith}
 use Rattle.wh_words.specs.Moves.Kind.{cut}
 use Rattle.wh_expand.specs.FirstLevelMoves.{AreLevelMovesBefore}
 use Rattle.wh_graph.proofs.EdgeTables.{graph_degree}
-use Rattle.wh_expand.proofs.SetTables.{tuple_table}
+use Rattle.wh_graph.proofs.SetTables.{tuple_table}
 use Rattle.wh_expand.proofs.cuts.push_cuts.Goals as goal
 
 pub push_cuts_with-requires-clause-degree : goal.push_cuts_with-requires-clause-degree

@@ -14,8 +14,8 @@ use Rattle.wh_graph.proofs.CellSums.{cell_most}
 use Rattle.wh_graph.specs.Graphs.{IsGraph}
 use Rattle.wh_graph.proofs.EdgeTables.{graph_capacity}
 use Rattle.wh_words.specs.Tuples.{TupleData, IsTuple}
-use Rattle.wh_expand.specs.CapacityTables.{IsTable, edges_into, set_capacity, tuple_capacity}
-use Rattle.wh_expand.proofs.CapacitySums.{one_more}
+use Rattle.wh_graph.specs.CapacityTables.{IsTable, edges_into, set_capacity, tuple_capacity}
+use Rattle.wh_graph.proofs.CapacitySums.{one_more}
 
 -- ---- tables
 pub table_none : (f : ℕ → ℕ) → IsTable f 0 []

@@ -1,8 +1,8 @@
 use Rattle.std.proofs.Common.{◌≡◌, ◌+◌, ◌^◌, ◌<◌, refl, ◌∙◌, arith}
-use Rattle.wh_expand.specs.CapacityTables.{edges_into}
-use Rattle.wh_expand.proofs.SetTables.{table_same, table_more, power_more, edges_more, edges_few}
+use Rattle.wh_graph.specs.CapacityTables.{edges_into}
+use Rattle.wh_graph.proofs.SetTables.{table_same, table_more, power_more, edges_more, edges_few}
 use Rattle.wh_graph.proofs.CellSums.{cell_most}
-use Rattle.wh_expand.proofs.capacity_table.double_edges.Goals as goal
+use Rattle.wh_graph.proofs.set_capacities.double_edges.Goals as goal
 
 pub loop-set-init : goal.loop-set-init
 loop-set-init c = table_same (edges_into c.args.net.now.cells c.args.x) (2 ^ c.args.y) (2 ^ c.args.y + 0) c.args.edges.now.items c.args.edges.now.items (omega arith) refl c.requires.edges

@@ -1,15 +1,15 @@
 //! The capacities of all sets of letters of a rank.
 ghost use Rattle.std.specs.Prelude.{◌≡◌, ◌+◌, ◌*◌, ◌^◌, ◌<◌, ◌≤◌, OnOk, IfOk};
 ghost use Rattle.wh_flow.specs.Nets.{IsNet};
-ghost use Rattle.wh_expand.specs.CapacityTables.{IsTable, edges_into, set_capacity};
+ghost use Rattle.wh_graph.specs.CapacityTables.{IsTable, edges_into, set_capacity};
 
+use crate::capacity::deg;
 use std::alloc::Global;
 use wh_flow::Net;
-use wh_graph::deg;
 use wh_words::{Letter, OutOfMemory};
 
-/// How many sets there are of so many letters.
-pub(crate) fn count_sets(letters: u8) -> usize
+/// How many sets there are of so many letters, which are 12 at most.
+pub fn count_sets(letters: u8) -> usize
     requires { letters ≤ 12 }
     ensures { result ≡ 2 ^ letters }
 {
@@ -68,9 +68,11 @@ fn double_capacities(
     Ok(())
 }
 
-/// The capacities of all sets of letters of a network's rank, which is 6 at most, by the masks of the sets. They are found
-/// by adding one letter after another, and none of them afresh.
-pub(crate) fn capacity_table(alloc: Global, net: &Net) -> Result<Vec<u32>, OutOfMemory>
+/// The capacities of all sets of letters of a network's rank, which is 6 at most: for each set, at the place that its mask
+/// says, how many edges lead out of it (Lyndon and Schupp, I.4). They are found by adding one letter after another, and
+/// none of them afresh. `OutOfMemory` comes where memory is short for the table, of 4 to the rank numbers, or for the
+/// counts of edges, of half as many.
+pub fn capacity_table(alloc: Global, net: &Net) -> Result<Vec<u32>, OutOfMemory>
     requires { net.now.rank ≤ 6 }
     ensures { IfOk result (λ v. IsTable (set_capacity net.now.cells) (2 ^ (2 * net.now.rank)) v.items) }
 {

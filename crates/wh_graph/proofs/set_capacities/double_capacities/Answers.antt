@@ -1,7 +1,7 @@
 use Rattle.std.proofs.Common.{◌≡◌, ◌+◌, ◌-◌, ◌*◌, ◌^◌, ◌<◌, get_or, refl, ◌∙◌, arith}
-use Rattle.wh_expand.specs.CapacityTables.{set_capacity}
-use Rattle.wh_expand.proofs.SetTables.{table_same, table_more, power_more, capacity_more, capacity_few, edges_few, degree_few}
-use Rattle.wh_expand.proofs.capacity_table.double_capacities.Goals as goal
+use Rattle.wh_graph.specs.CapacityTables.{set_capacity}
+use Rattle.wh_graph.proofs.SetTables.{table_same, table_more, power_more, capacity_more, capacity_few, edges_few, degree_few}
+use Rattle.wh_graph.proofs.set_capacities.double_capacities.Goals as goal
 
 pub loop-set-init : goal.loop-set-init
 loop-set-init c = table_same (set_capacity c.args.net.now.cells) (2 ^ c.args.x) (2 ^ c.args.x + 0) c.args.capacities.now.items c.args.capacities.now.items (omega arith) refl c.requires.capacities
