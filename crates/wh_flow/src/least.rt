@@ -14,6 +14,7 @@ use wh_words::{Letter, LetterSet};
 /// then by the second, and a smaller number comes first.
 pub fn least_flow(net: &Net, flow: &Flow, s: Letter, t: Letter) -> Flow
     requires flow { IsFlow (cell net.now.cells) (cell flow.now) s t }
+    ensures size { length result ≡ 2704 }
     ensures first { IsFirstFlow (cell net.now.cells) (cell result) s t }
     ensures same { HaveOneValue (cell flow.now) (cell result) s }
 {

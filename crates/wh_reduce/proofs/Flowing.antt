@@ -2,6 +2,8 @@
 use Rattle.std.proofs.Common.{◌≡◌, ℕ, ◌+◌, ◌*◌, ◌<◌, ◌≤◌, List, [], ◌∷◌, ◌++◌, length, get_or, inl, inr, sym, subst, arith, length-append}
 use Rattle.std.proofs.lemmas.Bool.{cases_lt}
 use Rattle.std.proofs.lemmas.List.{get_or_push, get_or_append_left}
+use Rattle.std.proofs.lemmas.List.Elements.{All-push}
+use Rattle.std.specs.List.{All}
 use Rattle.wh_words.specs.Letters.{inverse_letter}
 use Rattle.wh_words.specs.Tuples.{TupleData, IsTuple}
 use Rattle.wh_words.specs.CapacityTraces.{IsTight}
@@ -43,11 +45,13 @@ module _ (net : Net) (t : TupleData) (is : IsTuple t) (rank : t.rank ≤ 26) (gr
 -- The flows of the first generators.
 pub record AreFlowsBelow (t : TupleData) (n : ℕ) (flows : List (List ℕ)) : Type 0 where
   pub count : length flows ≡ n
+  pub sizes : All (λ f. length f ≡ 2704) flows
   pub each : (generator : ℕ) → generator < n → IsFlowOfLetter t (2 * generator) (cell (get_or flows generator []))
 
-pub flows_more : (t : TupleData) (n a : ℕ) (flows : List (List ℕ)) (f : List ℕ) → a ≡ 2 * n → AreFlowsBelow t n flows → IsFlowOfLetter t a (cell f) → AreFlowsBelow t (n + 1) (flows ++ f ∷ [])
-flows_more t n a flows f e are flow = record {
+pub flows_more : (t : TupleData) (n a : ℕ) (flows : List (List ℕ)) (f : List ℕ) → a ≡ 2 * n → AreFlowsBelow t n flows → length f ≡ 2704 → IsFlowOfLetter t a (cell f) → AreFlowsBelow t (n + 1) (flows ++ f ∷ [])
+flows_more t n a flows f e are size flow = record {
   count = omega (arith, length-append flows (f ∷ []), are.count);
+  sizes = All-push (λ h. length h ≡ 2704) flows f are.sizes size;
   each = λ g l. elim (cases_lt g n) [
     | inl k ↦ subst (λ (h : List ℕ). IsFlowOfLetter t (2 * g) (cell h)) (sym (get_or_append_left flows (f ∷ []) [] g (omega (arith, k, are.count)))) (are.each g k)
     | inr k ↦
