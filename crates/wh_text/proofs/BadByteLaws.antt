@@ -15,10 +15,10 @@ use Rattle.wh_text.specs.Readings.{◌>>=◌}
 use Rattle.wh_text.specs.Numbers.{number}
 use Rattle.wh_text.specs.Spellings.{are, letter_of, letter_at, letters_at, word_at}
 use Rattle.wh_text.specs.TupleLines.{items_at, words_at, short_tuple, tuple_at}
-use Rattle.wh_text.specs.Problems.{Sheet, ProblemData, blank_sheet, most_bytes, greatest_rank, rank_at, rank_number, allowed_rank, kept_line, line_of_fields, good_line, line_at, lines_at, decide, one_tuple, two_tuples, decide_both, problem_with, whole, problem}
+use Rattle.wh_text.specs.Problems.{Sheet, ProblemData, blank_sheet, most_bytes, greatest_rank, rank_at, rank_number, allowed_rank, kept_line, line_of_fields, line_at, lines_at, decide, one_tuple, two_tuples, decide_both, problem_with, whole, problem}
 use Rattle.wh_text.specs.Laws.{IsClean, NamesTheFirstBadByte}
 use Rattle.wh_text.proofs.Equations.{bind_err}
-use Rattle.wh_text.proofs.ToldLines.{bad_clean}
+use Rattle.wh_text.proofs.ToldLines.{good_line, line_good, bad_clean}
 
 -- ---- what other readers refuse is no byte
 abbrev pub IsOther : ReadError → Type 0
@@ -141,16 +141,14 @@ good_bad command l s line m column (Some c) e h =
     (sym here, leftmost 1 column line (e ∙ ap (λ k. Some k) place))
 
 line_bad : (command : Command) (l : ℕ) (s : Sheet) (line : List ℕ) (m column : ℕ) → line_at command l s line ≡ Err (errors.BadByte m column) → (m ≡ l) × IsLeftmost 1 line column
-unfolding line_at
-line_bad command l s line m column h = good_bad command l s line m column (bad_at 1 line) refl h
+line_bad command l s line m column h = good_bad command l s line m column (bad_at 1 line) refl (sym (line_good command l s line) ∙ h)
 
 good_clean : (command : Command) (l : ℕ) (s t : Sheet) (line : List ℕ) (o : Option ℕ) → bad_at 1 line ≡ o → good_line command l s line o ≡ Ok t → IsClean line
 good_clean command l s t line None e h = bad_clean 1 line e
 good_clean command l s t line (Some c) e h = absurd (cc)
 
 line_clean : (command : Command) (l : ℕ) (s t : Sheet) (line : List ℕ) → line_at command l s line ≡ Ok t → IsClean line
-unfolding line_at
-line_clean command l s t line h = good_clean command l s t line (bad_at 1 line) refl h
+line_clean command l s t line h = good_clean command l s t line (bad_at 1 line) refl (sym (line_good command l s line) ∙ h)
 
 -- ---- the first line with a bad byte
 -- line m, where the first of these lines has number l

@@ -1,5 +1,5 @@
 -- What an equation between results, or between tests, tells of their parts: for the readers of items and all laws.
-use Rattle.std.proofs.Common.{◌≡◌, ℕ, ◌==◌, ◌≤◌, ltb, Bool, true, false, cond, List, [], ◌∷◌, map, refl, ap, ◌∙◌, arith, Result, Ok, Err, inl, inr, ◌⊎◌}
+use Rattle.std.proofs.Common.{◌≡◌, ◌≢◌, ℕ, ◌==◌, ◌≤◌, ltb, Bool, true, false, cond, List, [], ◌∷◌, map, refl, ap, ◌∙◌, subst, arith, Result, Ok, Err, inl, inr, ◌⊎◌}
 use Rattle.std.specs.Prelude.{◌&&◌}
 use Rattle.std.proofs.lemmas.Bool.{eqb-true, false≢true}
 use Rattle.std.proofs.lemmas.Bool.Decides.{nat_tests}
@@ -19,6 +19,10 @@ bind_err (Err g) f d e = inl (cc)
 
 pub ok_is : {A : Type 0} (x y : A) → ◌≡◌ {A = Result A ReadError} (Ok x) (Ok y) → x ≡ y
 ok_is x y e = cc
+
+-- what holds of one value holds of the other
+pub ok_same : {A : Type 0} (P : A → Type 0) (x y : A) → ◌≡◌ {A = Result A ReadError} (Ok x) (Ok y) → P x → P y
+ok_same P x y e h = subst P (ok_is x y e) h
 
 pub unless_ok : {A : Type 0} (t : Bool) (e : ReadError) (r : Result A ReadError) (x : A) → cond t (Err e) r ≡ Ok x → (t ≡ false) × (r ≡ Ok x)
 unless_ok true e r x h = absurd (cc)
@@ -53,7 +57,14 @@ are_self (d ∷ ds) = ap (λ t. t && are ds ds) (eq_true d d refl) ∙ are_self 
 pub are_back : (bs text : List ℕ) → bs ≡ text → are bs text ≡ true
 are_back bs text e = ap (λ v. are v text) e ∙ are_self text
 
+pub not_nil : (b : ℕ) (bs : List ℕ) → (b ∷ bs) ≢ []
+not_nil b bs e = absurd (cc)
+
 -- the first of some fields, and the others
 pub split_fields : (fs : List Field) (w : List ℕ) (ws : List (List ℕ)) → map (λ f. f.bytes) fs ≡ w ∷ ws → (keyword : Field) × (rest : List Field) × (fs ≡ keyword ∷ rest) × (keyword.bytes ≡ w) × (map (λ f. f.bytes) rest ≡ ws)
 split_fields [] w ws e = absurd (cc)
 split_fields (f ∷ fs) w ws e = (f, fs, refl, (cc), (cc))
+
+pub no_fields : (fs : List Field) → map (λ f. f.bytes) fs ≡ [] → fs ≡ []
+no_fields [] e = refl
+no_fields (f ∷ fs) e = absurd (cc)

@@ -59,7 +59,7 @@ pub letter_some : (n l c : ℕ) (o : Option ℕ) (x : ℕ) → letter_at l c o �
 letter_some n l c None x e = absurd (cc)
 letter_some n l c (Some y) x e = ap (λ v. Some v) (ok_is y x e)
 
-letter_is : (n b x : ℕ) → n ≤ 26 → letter_of n b ≡ Some x → (b ≡ letter_text x) × (x < 2 * n)
+pub letter_is : (n b x : ℕ) → n ≤ 26 → letter_of n b ≡ Some x → (b ≡ letter_text x) × (x < 2 * n)
 letter_is n b x h e = grind (arith, nat_tests)
 
 pub text_from : (n l c : ℕ) (bs xs : List ℕ) → n ≤ 26 → letters_at n l c bs ≡ Ok xs → (bs ≡ map letter_text xs) × All (λ x. x < 2 * n) xs

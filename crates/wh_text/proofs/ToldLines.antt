@@ -1,5 +1,5 @@
 -- What lines tell that are read one after the other, and from which lines it is read: for the laws on whole texts.
-use Rattle.std.proofs.Common.{◌≡◌, ℕ, ◌+◌, ◌≤◌, ◌==◌, Bool, true, false, cond, List, [], ◌∷◌, ◌++◌, map, sym, ap, ◌∙◌, refl, subst, arith, None, Some, inl, inr, Ok, Err, append-nil, append_assoc}
+use Rattle.std.proofs.Common.{◌≡◌, ℕ, ◌+◌, ◌≤◌, ◌==◌, Bool, true, false, cond, List, [], ◌∷◌, ◌++◌, map, sym, ap, ◌∙◌, refl, subst, arith, None, Some, inl, inr, Result, Ok, Err, append-nil, append_assoc}
 use Rattle.std.specs.Prelude.{◌||◌, ◌&&◌, codes, decimal}
 use Rattle.std.specs.declared.option.Option.{Option}
 use Rattle.std.specs.List.{All, list_all}
@@ -7,13 +7,15 @@ use Rattle.std.proofs.lemmas.List.Elements.{All-nil, All-cons, All-head, All-tai
 use Rattle.std.proofs.lemmas.Bool.{cases_Bool, cond-true, cond-false, cond_both, false≢true}
 use Rattle.wh_words.specs.Tuples.{TupleData}
 use Rattle.wh_text.specs.declared.command.Command.{Command}
+use Rattle.wh_text.specs.declared.read_error.ReadError.{ReadError}
 use Rattle.wh_text.specs.declared.read_error.ReadError.TheVariants as errors
 use Rattle.wh_text.specs.Lines.{Field, is_allowed, bad_at, is_comment, joined, fields}
 use Rattle.wh_text.specs.Readings.{◌>>=◌}
 use Rattle.wh_text.specs.Spellings.{are, word_text}
 use Rattle.wh_text.specs.TupleLines.{tuple_at}
-use Rattle.wh_text.specs.Problems.{Sheet, blank_sheet, greatest_rank, rank_at, first_line, later_line, kept_line, line_of_fields, good_line, line_at, lines_at}
-use Rattle.wh_text.specs.Laws.{is_skipped, kept_lines, IsClean, IsRankLine, IsTupleLine}
+use Rattle.wh_text.specs.Problems.{Sheet, blank_sheet, greatest_rank, rank_at, first_line, later_line, kept_line, line_of_fields, line_at, lines_at}
+use Rattle.wh_text.specs.KeptLines.{good_fields, line_fields, is_skipped}
+use Rattle.wh_text.specs.Laws.{kept_lines, IsClean, IsRankLine, IsTupleLine}
 use Rattle.wh_text.proofs.Equations.{bind_ok, ok_is, if_ok, are_is, are_back, split_fields}
 use Rattle.wh_text.proofs.TupleLaws.{AreSome, fields_some, Spell, tuple_is, tuple_back, rank_within, rank_is, rank_back}
 
@@ -25,7 +27,7 @@ bad_clean c (b ∷ bs) e = elim (cases_Bool (is_allowed b)) [
   | inr f ↦ (let no : ◌≡◌ {A = Option ℕ} (Some c) None = sym (cond-false (is_allowed b) (bad_at (c + 1) bs) (Some c) f) ∙ e in absurd (cc))
 ]
 
-clean_bad : (c : ℕ) (line : List ℕ) → IsClean line → bad_at c line ≡ None
+pub clean_bad : (c : ℕ) (line : List ℕ) → IsClean line → bad_at c line ≡ None
 clean_bad c [] h = refl
 clean_bad c (b ∷ bs) h =
     cond-true (is_allowed b) (bad_at (c + 1) bs) (Some c) (All-head (λ b. is_allowed b ≡ true) b bs h) ∙ clean_bad (c + 1) bs (All-tail (λ b. is_allowed b ≡ true) b bs h)
@@ -48,7 +50,7 @@ blank_none : (c : ℕ) (line : List ℕ) → list_all (λ b. b == 32) line ≡ i
 blank_none c [] = refl
 blank_none c (b ∷ bs) = blank_by (b == 32) (list_all (λ b. b == 32) bs) c b (fields (c + 1) bs) (blank_none (c + 1) bs)
 
-skipped_is : (line : List ℕ) → is_skipped line ≡ (is_comment line || is_none (fields 1 line))
+pub skipped_is : (line : List ℕ) → is_skipped line ≡ (is_comment line || is_none (fields 1 line))
 skipped_is line = ap (λ t. is_comment line || t) (blank_none 1 line)
 
 -- a line is skipped, or its keyword and the fields after it are read
@@ -62,17 +64,32 @@ told_by command l s line told true fs e f h = skipped e (sym (ok_is s told h))
 told_by command l s line told false [] e f h = skipped e (sym (ok_is s told h))
 told_by command l s line told false (keyword ∷ fs) e f h = kept keyword fs e f h
 
+-- a line whose leftmost bad byte, if any, is in this column
+abbrev pub good_line : Command → ℕ → Sheet → List ℕ → Option ℕ → Result Sheet ReadError
+good_line command l s line (Some c) = Err (errors.BadByte l c)
+good_line command l s line None = cond (is_comment line) (Ok s) (line_of_fields command l s (fields 1 line))
+
+pub line_good : (command : Command) (l : ℕ) (s : Sheet) (line : List ℕ) → line_at command l s line ≡ good_line command l s line (bad_at 1 line)
+unfolding line_at line_fields line_of_fields
+line_good command l s line = by (bad_at 1 line)
+  where
+    either : (t : Bool) → line_of_fields command l s (cond t [] (fields 1 line)) ≡ cond t (Ok s) (line_of_fields command l s (fields 1 line))
+    either true = refl
+    either false = refl
+
+    by : (o : Option ℕ) → (good_fields l line o >>= λ fs. line_of_fields command l s fs) ≡ good_line command l s line o
+    by (Some c) = refl
+    by None = either (is_comment line)
+
 good_by : (command : Command) (l : ℕ) (s : Sheet) (line : List ℕ) (told : Sheet) (o : Option ℕ) → bad_at 1 line ≡ o → good_line command l s line o ≡ Ok told → IsClean line × Told command l s line told
 good_by command l s line told None e h = (bad_clean 1 line e, told_by command l s line told (is_comment line) (fields 1 line) (skipped_is line) refl h)
 good_by command l s line told (Some c) e h = absurd (cc)
 
 line_is : (command : Command) (l : ℕ) (s : Sheet) (line : List ℕ) (told : Sheet) → line_at command l s line ≡ Ok told → IsClean line × Told command l s line told
-unfolding line_at
-line_is command l s line told h = good_by command l s line told (bad_at 1 line) refl h
+line_is command l s line told h = good_by command l s line told (bad_at 1 line) refl (sym (line_good command l s line) ∙ h)
 
 line_by : (command : Command) (l : ℕ) (s : Sheet) (line : List ℕ) → IsClean line → line_at command l s line ≡ cond (is_comment line) (Ok s) (line_of_fields command l s (fields 1 line))
-unfolding line_at
-line_by command l s line h = ap (good_line command l s line) (clean_bad 1 line h)
+line_by command l s line h = line_good command l s line ∙ ap (good_line command l s line) (clean_bad 1 line h)
 
 skip_by : (command : Command) (l : ℕ) (s : Sheet) (t : Bool) (fs : List Field) → (t || is_none fs) ≡ true → cond t (Ok s) (line_of_fields command l s fs) ≡ Ok s
 unfolding line_of_fields
@@ -113,7 +130,7 @@ spell_line n line keyword fs u f e s = record {
   cyclic = s.cyclic;
 }
 
-rest_some : (line : List ℕ) (keyword : Field) (fs : List Field) → fields 1 line ≡ keyword ∷ fs → AreSome fs
+pub rest_some : (line : List ℕ) (keyword : Field) (fs : List Field) → fields 1 line ≡ keyword ∷ fs → AreSome fs
 rest_some line keyword fs f = All-tail (λ g. g.bytes ≡ [] → ⊥) keyword fs (subst AreSome f (fields_some 1 line))
 
 -- what a kept line tells where the rank is known

@@ -21,21 +21,18 @@ use Rattle.wh_text.specs.Problems.{greatest_rank, rank_at, rank_number, allowed_
 use Rattle.wh_text.proofs.Items.{words_read}
 use Rattle.wh_text.proofs.NumberLaws.{reads_numbers}
 use Rattle.wh_text.proofs.WordLaws.{reads_words}
-use Rattle.wh_text.proofs.Equations.{bind_ok, ok_is, unless_ok, if_ok, not_more, is_not_more}
+use Rattle.wh_text.proofs.Equations.{not_nil, bind_ok, ok_is, unless_ok, if_ok, not_more, is_not_more}
 
 -- ---- no field is empty
 abbrev pub AreSome : List Field → Type 0
 AreSome fs = All (λ f. f.bytes ≢ []) fs
 
-some : (b : ℕ) (bs : List ℕ) → (b ∷ bs) ≢ []
-some b bs e = absurd (cc)
-
 joined_some : (c b : ℕ) (fs : List Field) → AreSome fs → AreSome (joined c b fs)
-joined_some c b [] h = All-cons (λ f. f.bytes ≢ []) (record { column = c; bytes = b ∷ [] }) [] (some b []) h
+joined_some c b [] h = All-cons (λ f. f.bytes ≢ []) (record { column = c; bytes = b ∷ [] }) [] (not_nil b []) h
 joined_some c b (f ∷ fs) h =
     cond_both (f.column == c + 1) (record { column = c; bytes = b ∷ f.bytes } ∷ fs) (record { column = c; bytes = b ∷ [] } ∷ f ∷ fs) AreSome
-    (λ _. All-cons (λ f. f.bytes ≢ []) (record { column = c; bytes = b ∷ f.bytes }) fs (some b f.bytes) (All-tail (λ f. f.bytes ≢ []) f fs h))
-    (λ _. All-cons (λ f. f.bytes ≢ []) (record { column = c; bytes = b ∷ [] }) (f ∷ fs) (some b []) h)
+    (λ _. All-cons (λ f. f.bytes ≢ []) (record { column = c; bytes = b ∷ f.bytes }) fs (not_nil b f.bytes) (All-tail (λ f. f.bytes ≢ []) f fs h))
+    (λ _. All-cons (λ f. f.bytes ≢ []) (record { column = c; bytes = b ∷ [] }) (f ∷ fs) (not_nil b []) h)
 
 pub fields_some : (c : ℕ) (line : List ℕ) → AreSome (fields c line)
 fields_some c [] = All-nil (λ f. f.bytes ≢ [])
@@ -76,21 +73,40 @@ pub record Spell (n : ℕ) (fs : List Field) (t : TupleData) : Type 0 where
   pub short : sum_by length written ≤ 4096
   pub cyclic : t ≡ record { rank = n; words = map cyclic_word written }
 
-pub tuple_is : (n l : ℕ) (fs : List Field) (t : TupleData) → n ≤ 26 → AreSome fs → tuple_at n l fs ≡ Ok t → Spell n fs t
+-- the tuple is made of the words that the fields tell
+pub record MadeOfWords (n l : ℕ) (fs : List Field) (t : TupleData) : Type 0 where
+  pub written : List (List ℕ)
+  pub read : words_at n l fs ≡ Ok written
+  pub few : length fs ≤ 64
+  pub short : sum_by length written ≤ 4096
+  pub cyclic : t ≡ record { rank = n; words = map cyclic_word written }
+
+pub tuple_made : (n l : ℕ) (fs : List Field) (t : TupleData) → tuple_at n l fs ≡ Ok t → MadeOfWords n l fs t
 unfolding tuple_at
-tuple_is n l fs t h g e =
+tuple_made n l fs t e =
     let few = unless_ok (ltb 64 (length fs)) (errors.TooManyWords l (length fs)) (words_at n l fs >>= λ ws. short_tuple n l ws) t e in
     let p = bind_ok (words_at n l fs) (λ ws. short_tuple n l ws) t few.1 in
-    let words = words_are n l fs p.0 h g p.1 in
-    let read = words_read n l fs p.0 h p.1 in
     let short = unless_ok (ltb 4096 (sum_by length p.0)) (errors.LongTuple l (sum_by length p.0)) (Ok (record { rank = n; words = map cyclic_word p.0 })) t p.2 in
     record {
       written = p.0;
-      spelled = words.0;
-      of_rank = words.1;
-      few = omega (arith, read.count, not_more 64 (length fs) few.0);
+      read = p.1;
+      few = not_more 64 (length fs) few.0;
       short = not_more 4096 (sum_by length p.0) short.0;
       cyclic = sym (ok_is (record { rank = n; words = map cyclic_word p.0 }) t short.1);
+    }
+
+pub tuple_is : (n l : ℕ) (fs : List Field) (t : TupleData) → n ≤ 26 → AreSome fs → tuple_at n l fs ≡ Ok t → Spell n fs t
+tuple_is n l fs t h g e =
+    let made = tuple_made n l fs t e in
+    let words = words_are n l fs made.written h g made.read in
+    let read = words_read n l fs made.written h made.read in
+    record {
+      written = made.written;
+      spelled = words.0;
+      of_rank = words.1;
+      few = omega (arith, read.count, made.few);
+      short = made.short;
+      cyclic = made.cyclic;
     }
 
 pub tuple_back : (n l : ℕ) (fs : List Field) (t : TupleData) → n ≤ 26 → AreSome fs → Spell n fs t → tuple_at n l fs ≡ Ok t

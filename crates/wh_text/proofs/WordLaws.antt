@@ -16,7 +16,7 @@ use Rattle.wh_text.proofs.Equations.{bind_err, ok_is, both_true}
 use Rattle.wh_text.proofs.Items.{text_from}
 
 -- ---- letters
-letter_back : (n x : ℕ) → n ≤ 26 → x < 2 * n → letter_of n (letter_text x) ≡ Some x
+pub letter_back : (n x : ℕ) → n ≤ 26 → x < 2 * n → letter_of n (letter_text x) ≡ Some x
 letter_back n x h l = grind (arith, nat_tests)
 
 text_back : (n l c : ℕ) (xs : List ℕ) → n ≤ 26 → All (λ x. x < 2 * n) xs → letters_at n l c (map letter_text xs) ≡ Ok xs

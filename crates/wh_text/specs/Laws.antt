@@ -1,13 +1,14 @@
 -- The laws of reading, in the words of what is written: what is read is spelled so, and what is spelled so is read.
-use Rattle.std.specs.Prelude.{◌≡◌, ◌≢◌, ◌||◌, ℕ, ◌+◌, ◌^◌, ◌<◌, ◌≤◌, ◌==◌, ◌↔◌, Bool, true, false, cond, List, [], ◌∷◌, ◌++◌, length, map, Some, None, Ok, Err, decimal, codes}
-use Rattle.std.specs.List.{All, list_all, sum_by}
+use Rattle.std.specs.Prelude.{◌≡◌, ◌≢◌, ℕ, ◌+◌, ◌^◌, ◌<◌, ◌≤◌, ◌↔◌, true, false, cond, List, [], ◌∷◌, ◌++◌, length, map, Some, None, Ok, Err, decimal, codes}
+use Rattle.std.specs.List.{All, sum_by}
 use Rattle.wh_words.specs.Words.{IsOfRank}
 use Rattle.wh_words.specs.CyclicWords.{cyclic_word}
 use Rattle.wh_words.specs.Tuples.{TupleData}
 use Rattle.wh_text.specs.declared.command.Command.{Command}
 use Rattle.wh_text.specs.declared.command.Command.TheVariants as commands
 use Rattle.wh_text.specs.declared.read_error.ReadError.TheVariants as errors
-use Rattle.wh_text.specs.Lines.{Field, lines, fields, is_allowed, is_comment}
+use Rattle.wh_text.specs.Lines.{Field, lines, fields, is_allowed}
+use Rattle.wh_text.specs.KeptLines.{is_skipped}
 use Rattle.wh_text.specs.Numbers.{number}
 use Rattle.wh_text.specs.Spellings.{letter_of, letter_text, letters_at, word_at, word_text}
 use Rattle.wh_text.specs.Problems.{problem, reduce, decide, most_bytes}
@@ -76,10 +77,6 @@ abbrev pub ReadsFields : Type 0
 ReadsFields = (fs : List (List ℕ)) (line : List ℕ) → (field_texts line ≡ fs) ↔ HasFields fs line
 
 -- ---- texts
--- Whether a line is skipped: it begins with `#`, or has no bytes but spaces.
-abbrev pub is_skipped : List ℕ → Bool
-is_skipped line = is_comment line || list_all (λ b. b == 32) line
-
 -- The lines that aren't skipped.
 abbrev pub kept_lines : List (List ℕ) → List (List ℕ)
 kept_lines [] = []

@@ -10,6 +10,14 @@ pub mod FlowTexts
 pub mod AnswerTexts
 pub mod RefusalTexts
 pub mod Statuses
+pub mod AnswerData
+pub mod MoveFields
+pub mod FlowFields
+pub mod KeptLines
+pub mod Certificates
+pub mod VerdictWords
+pub mod Numberings
+pub mod ReadingBack
 pub mod Laws
 -- How this crate goes through the bytes of a line.
 pub mod Scans

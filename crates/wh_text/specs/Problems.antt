@@ -7,7 +7,8 @@ use Rattle.wh_text.specs.declared.problem.Problem.{Problem}
 use Rattle.wh_text.specs.declared.problem.Problem.TheVariants as problems
 use Rattle.wh_text.specs.declared.read_error.ReadError.{ReadError}
 use Rattle.wh_text.specs.declared.read_error.ReadError.TheVariants as errors
-use Rattle.wh_text.specs.Lines.{Field, lines, bad_at, is_comment, fields}
+use Rattle.wh_text.specs.Lines.{Field, lines}
+use Rattle.wh_text.specs.KeptLines.{line_fields}
 use Rattle.wh_text.specs.Readings.{◌>>=◌}
 use Rattle.wh_text.specs.Numbers.{number}
 use Rattle.wh_text.specs.Spellings.{are}
@@ -82,14 +83,9 @@ unfoldable pub line_of_fields : Command → ℕ → Sheet → List Field → Res
 line_of_fields command l s [] = Ok s
 line_of_fields command l s (keyword ∷ fs) = kept_line command l s s.rank keyword fs
 
--- A line whose leftmost bad byte, if any, is in this column. A line that begins with `#` is skipped.
-abbrev pub good_line : Command → ℕ → Sheet → List ℕ → Option ℕ → Result Sheet ReadError
-good_line command l s line (Some c) = Err (errors.BadByte l c)
-good_line command l s line None = cond (is_comment line) (Ok s) (line_of_fields command l s (fields 1 line))
-
 -- What is told with line number l. Skipped lines too are searched for bad bytes.
 unfoldable pub line_at : Command → ℕ → Sheet → List ℕ → Result Sheet ReadError
-line_at command l s line = good_line command l s line (bad_at 1 line)
+line_at command l s line = line_fields l line >>= λ fs. line_of_fields command l s fs
 
 -- ---- the text
 -- What is told with some lines, the first of number l; and the number of lines and one more, the place past the end.

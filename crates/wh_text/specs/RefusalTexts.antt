@@ -20,6 +20,7 @@ cause_text (errors.BadLetter l c) = codes "bad-letter line " ++ decimal l ++ cod
 cause_text (errors.LongTuple l length) = codes "long-tuple line " ++ decimal l ++ codes " length " ++ decimal length
 cause_text (errors.TupleCount expected found) = codes "tuple-count " ++ decimal expected ++ codes " " ++ decimal found
 cause_text (errors.SizeMismatch first second) = codes "size-mismatch " ++ decimal first ++ codes " " ++ decimal second
+cause_text (errors.NoCertificate l) = codes "no-certificate line " ++ decimal l
 cause_text errors.OutOfMemory = []
 
 -- The line of a refusal.

@@ -1,4 +1,5 @@
 //! Laws of reading, each the contract of an empty function.
+ghost use Rattle.wh_text.specs.ReadingBack.{ReadsBack};
 ghost use Rattle.wh_text.specs.Laws.{ReadsNumbers, ReadsLetters, ReadsWords, NamesTheFirstBadLetter, ReadsLines, ReadsFields, ReadsReduceTexts, ReadsDecideTexts, NamesTheFirstBadByte};
 
 /// A number is read exactly from its decimal digits.
@@ -44,4 +45,9 @@ pub fn decide_texts()
 /// A refusal of a byte names the first line that has a bad one, and the leftmost in it.
 pub fn first_bad_byte()
     ensures { NamesTheFirstBadByte }
+{}
+
+/// What is printed for an answer that is a certificate is read back as that answer.
+pub fn printed_answers()
+    ensures { ReadsBack }
 {}

@@ -2,12 +2,17 @@
 #![tactic(auto)]
 
 mod answer;
+mod answer_line;
+mod certificate;
 mod command;
 mod field;
 mod field_printer;
+mod flow_field;
 mod flow_line;
+mod kept_line;
 pub mod laws;
 mod line;
+mod move_field;
 mod number;
 mod numbered;
 mod printer;
@@ -16,10 +21,13 @@ mod read_error;
 mod reader;
 mod refusal;
 mod sheet;
+mod side_reading;
 mod status;
 mod tuple_line;
+mod verdict_reading;
 
 pub use answer::{Answer, Bound, Side, Verdict};
+pub use certificate::read_answer;
 pub use command::Command;
 pub use number::canonical_number;
 pub use numbered::Numbered;

@@ -43,6 +43,9 @@ pub enum ReadError {
     /// The two tuples have different numbers of words: these.
     #[error("the first tuple has {first} words and the second {second}")]
     SizeMismatch { first: u64, second: u64 },
+    /// The text is an answer of a kind that has nothing to check, as this line tells.
+    #[error("line {line}: an answer that is no certificate")]
+    NoCertificate { line: u64 },
     /// There was no memory.
     #[error("out of memory")]
     OutOfMemory,

@@ -65,6 +65,7 @@ fn push_cause(out: &mut Vec<u8>, error: ReadError) -> Result<(), OutOfMemory>
         ReadError::SizeMismatch { first, second } => {
             push_two(out, b"size-mismatch ", first, b" ", second)
         }
+        ReadError::NoCertificate { line } => push_one(out, b"no-certificate line ", line),
         ReadError::OutOfMemory => Ok(()),
     }
 }

@@ -1,13 +1,13 @@
 //! What the lines of a text tell, one after the other.
-ghost use Rattle.std.specs.Prelude.{◌≡◌, ◌<◌, ◌+◌, ◌^◌, ◌++◌, length, map, drop};
+ghost use Rattle.std.specs.Prelude.{◌≡◌, ◌<◌, ◌≤◌, ◌+◌, ◌^◌, ◌++◌, length, map, drop};
 ghost use Rattle.std.specs.List.{sum_by};
 ghost use Rattle.wh_text.specs.Scans.{bytes_within};
 ghost use Rattle.wh_text.specs.Readings.{Gives};
 ghost use Rattle.wh_text.specs.Problems as spec;
 
 use crate::command::Command;
-use crate::field::{Field, split};
-use crate::line::{bad_at, is_comment};
+use crate::field::Field;
+use crate::kept_line::line_fields;
 use crate::number::canonical_number;
 use crate::read_error::ReadError;
 use crate::tuple_line::read_tuple;
@@ -41,6 +41,18 @@ fn greatest_rank(command: Command) -> u64
     }
 }
 
+/// The rank of a number from 1 to 26, where the command allows it.
+pub fn allowed_rank(command: Command, n: u64) -> Result<Rank, ReadError>
+    requires least { 1 ≤ n }
+    requires greatest { n ≤ 26 }
+    ensures { Gives (λ n. n) result (spec.allowed_rank command n) }
+{
+    if n > greatest_rank(command) {
+        return Err(ReadError::LevelRank { rank: n });
+    }
+    Ok(Rank::new(n as u8).unwrap())
+}
+
 /// The rank of a number in a line.
 fn rank_number(command: Command, line: u64, read: Option<u64>) -> Result<Rank, ReadError>
     ensures { Gives (λ n. n) result (spec.rank_number command line read) }
@@ -51,10 +63,7 @@ fn rank_number(command: Command, line: u64, read: Option<u64>) -> Result<Rank, R
     if n < 1 || n > 26 {
         return Err(ReadError::RankRange { line });
     }
-    if n > greatest_rank(command) {
-        return Err(ReadError::LevelRank { rank: n });
-    }
-    Ok(Rank::new(n as u8).unwrap())
+    allowed_rank(command, n)
 }
 
 /// The rank of the fields after the keyword.
@@ -152,7 +161,7 @@ impl Sheet {
     }
 
     /// What is told with a line, or the first refusal that it meets.
-    #[tactic(auto, unfolding(crate::specs::Problems::line_at), using(crate::proofs::FieldCuts::fields_total))]
+    #[tactic(auto, unfolding(crate::specs::Problems::line_at))]
     pub fn read_line(
         self,
         alloc: Global,
@@ -162,16 +171,7 @@ impl Sheet {
     ) -> Result<Sheet, ReadError>
         ensures { Gives (λ s. s) result (spec.line_at command line self bytes.now) }
     {
-        if let Some(column) = bad_at(bytes) {
-            return Err(ReadError::BadByte {
-                line,
-                column: column as u64,
-            });
-        }
-        if is_comment(bytes) {
-            return Ok(self);
-        }
-        let fields = split(alloc, bytes)?;
+        let fields = line_fields(alloc, line, bytes)?;
         self.kept_line(alloc, command, line, &fields)
     }
 }

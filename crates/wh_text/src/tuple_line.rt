@@ -15,7 +15,7 @@ use std::alloc::Global;
 use wh_words::{Letter, List, OutOfMemory, Rank, Tuple, Word};
 
 /// The letter of rank `n` that a byte stands for.
-fn letter_of(n: u8, byte: u8) -> Option<Letter>
+pub fn letter_of(n: u8, byte: u8) -> Option<Letter>
     requires { n ≤ 26 }
     ensures { result ≡ spelling.letter_of n byte }
 {
