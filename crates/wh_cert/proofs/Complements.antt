@@ -1,7 +1,5 @@
 -- A cut (A, a) and the cut with the complement of A and the inverse of a take a tuple to one tuple.
-use Rattle.std.proofs.Common.{◌≡◌, ℕ, ◌+◌, ◌-◌, ◌*◌, ◌/◌, ◌%◌, ◌<◌, ◌==◌, ◌&&◌, Bool, true, false, not, cond, List, [], ◌∷◌, ◌++◌, length, map, get_or, refl, sym, ap, ◌∙◌, subst, inl, inr, ◌⊎◌, arith}
-use Rattle.std.proofs.lemmas.Bool.{cases_eq}
-use Rattle.std.specs.Int.{bit_at}
+use Rattle.std.proofs.Common.{◌≡◌, ℕ, ◌-◌, ◌*◌, ◌<◌, ◌==◌, ◌&&◌, Bool, true, false, not, cond, List, [], ◌∷◌, ◌++◌, length, map, get_or, refl, sym, ap, ◌∙◌, arith}
 use Rattle.std.specs.List.{All}
 use Rattle.std.proofs.lemmas.List.Elements.{All-head, All-tail, All-get_or}
 use Rattle.wh_words.specs.Letters.{inverse_letter}
@@ -16,7 +14,6 @@ use Rattle.wh_words.specs.Action.{act, substitute}
 use Rattle.wh_words.proofs.FreeReduction.{inverse-inverse}
 use Rattle.wh_words.proofs.CutImages.{cut_image}
 use Rattle.wh_graph.proofs.EdgeCounts.{inverse_below}
-use Rattle.wh_graph.proofs.SetNumbers.{mask, mask_has, mask_cut, holds, omits}
 
 -- ---- the pass
 module _ (a : ℕ) (has other : ℕ → Bool) where
@@ -71,32 +68,3 @@ pub turned_acts : (t : TupleData) (a set other : ℕ) → IsTuple t → IsCut t.
     ((x : ℕ) → x < 2 * t.rank → in_set other x ≡ not (in_set set x)) → act t (cut_move t.rank (inverse_letter a) other) ≡ act t (cut_move t.rank a set)
 turned_acts t a set other tuple is turned flips =
     ap (λ (ws : List (List ℕ)). record { rank = t.rank; words = ws }) (turned_words t.rank a set other is turned flips t.words tuple.cyclic tuple.of_rank)
-
--- ---- complements
-inverse_even : (g : ℕ) → inverse_letter (2 * g) ≡ 2 * g + 1
-unfolding inverse_letter
-inverse_even g = omega arith
-
--- A letter is a generator or the inverse of one.
-pub generator_of : (a : ℕ) → (a ≡ 2 * (a / 2)) ⊎ (a ≡ inverse_letter (2 * (a / 2)))
-generator_of a = elim (cases_eq (a % 2) 0) [ inl e ↦ inl (omega (arith, e)) | inr n ↦ inr (omega (arith, n, inverse_even (a / 2))) ]
-
--- The other letters of rank n than those of a set.
-abbrev pub complement : ℕ → ℕ → ℕ
-complement n set = mask (2 * n) (λ x. not (in_set set x))
-
-twice_not : (b : Bool) → b ≡ not (not b)
-twice_not true = refl
-twice_not false = refl
-
-pub complement_flips : (n set x : ℕ) → x < 2 * n → in_set set x ≡ not (in_set (complement n set) x)
-complement_flips n set x l = twice_not (in_set set x) ∙ ap not (sym (mask_has (2 * n) (λ y. not (in_set set y)) x l))
-
--- The complement of the set of a cut makes a cut of the inverse of its multiplier.
-pub complement_cut : (n a set : ℕ) → IsCut n (inverse_letter a) set → IsCut n a (complement n set)
-complement_cut n a set is =
-    let back : inverse_letter (inverse_letter a) ≡ a = inverse-inverse a in
-    let below : a < 2 * n = subst (λ (x : ℕ). x < 2 * n) back (inverse_below n (inverse_letter a) is.of_rank) in
-    let without : in_set set a ≡ false = omits set a (subst (λ (x : ℕ). bit_at set x ≡ 0) back is.omits) in
-    let with : in_set set (inverse_letter a) ≡ true = holds set (inverse_letter a) is.holds in
-    mask_cut n a (λ x. not (in_set set x)) below (ap not without) (ap not with)

@@ -11,7 +11,7 @@ use Rattle.wh_words.specs.TupleFlows.{edge_table}
 use Rattle.wh_flow.specs.Nets.{Net, cell}
 use Rattle.wh_graph.specs.Graphs.{IsGraph}
 use Rattle.wh_graph.proofs.EdgeTables.{graph_degree}
-use Rattle.wh_text.specs.declared.answer.Side.{Side}
+use Rattle.wh_text.specs.AnswerData.{SideData}
 use Rattle.wh_cert.specs.declared.checked.Rule.TheVariants as rules
 use Rattle.wh_cert.specs.declared.stop.Stop.{Stop}
 use Rattle.wh_cert.specs.Demands.{Demand, rule_of, has_flow, IsMet, IsGeneratorFlow, flow_asked}
@@ -73,8 +73,8 @@ module _ (net : Net) (end : TupleData) (is : IsTuple end) (graph : IsGraph net e
   flow_value h = subst (λ (a : ℕ). HasValue (cell f) a value) (sym h.letter) h.value
 
 -- What is judged of a line by the test.
-pub flow_judged : (place from : ℕ) (heads : List (ℕ × ℕ)) (s : Side) (g : ℕ) (head : ℕ × ℕ) (f : List ℕ) (b : Bool) (r : Result (Unit {0}) Stop) → get_or heads (from + g) (0, 0) ≡ head → get_or s.flows g [] ≡ f →
-    IsTrue b ↔ IsGeneratorFlow s.end.plain g head f → ((d : Demand) → rules.Flow ≡ rule_of d → IsTrue b ↔ IsMet d → Judges ((place + g, d) ∷ []) r) → Judges (flow_asked place from heads s g) r
+pub flow_judged : (place from : ℕ) (heads : List (ℕ × ℕ)) (s : SideData) (g : ℕ) (head : ℕ × ℕ) (f : List ℕ) (b : Bool) (r : Result (Unit {0}) Stop) → get_or heads (from + g) (0, 0) ≡ head → get_or s.flows g [] ≡ f →
+    IsTrue b ↔ IsGeneratorFlow s.end g head f → ((d : Demand) → rules.Flow ≡ rule_of d → IsTrue b ↔ IsMet d → Judges ((place + g, d) ∷ []) r) → Judges (flow_asked place from heads s g) r
 flow_judged place from heads s g head f b r e q tested ask =
-    subst (λ h. Judges ((place + g, has_flow s.end.plain g h (get_or s.flows g [])) ∷ []) r) (sym e)
-    (subst (λ (k : List ℕ). Judges ((place + g, has_flow s.end.plain g head k) ∷ []) r) (sym q) (ask (has_flow s.end.plain g head f) refl tested))
+    subst (λ h. Judges ((place + g, has_flow s.end g h (get_or s.flows g [])) ∷ []) r) (sym e)
+    (subst (λ (k : List ℕ). Judges ((place + g, has_flow s.end g head k) ∷ []) r) (sym q) (ask (has_flow s.end g head f) refl tested))

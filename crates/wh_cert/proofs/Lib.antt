@@ -1,11 +1,9 @@
 pub mod Judging
 pub mod ListedTuples
-pub mod CapacitySums
-pub mod SetTables
 pub mod Complements
-pub mod IdentityCuts
 pub mod Staying
 pub mod Flowing
 pub mod Carried
 pub mod Rising
 pub mod Numbering
+pub mod OneVerdict

@@ -3,33 +3,25 @@ use Rattle.std.proofs.Common.{◌≡◌, ℕ, suc, ◌+◌, ◌<◌, ◌≤◌, 
 use Rattle.std.specs.Prelude.{Contains}
 use Rattle.std.specs.List.{list_any}
 use Rattle.std.specs.Cmp.{IsTotalOrder}
-use Rattle.std.specs.Ordering.{eq_by_cmp, is_eq}
-use Rattle.std.specs.declared.cmp.Ordering.{Ordering}
-use Rattle.std.specs.declared.cmp.Ordering.TheVariants.{Less, Equal, Greater}
+use Rattle.std.specs.Ordering.{eq_by_cmp}
 use Rattle.std.proofs.Math.Seq.{take-suc}
-use Rattle.std.proofs.lemmas.Bool.{false≢true}
 use Rattle.std.proofs.lemmas.Cmp.{on_total, eq_by_cmp_equiv}
-use Rattle.std.proofs.lemmas.Map.Views.{list_any-from_Contains}
+use Rattle.std.proofs.lemmas.Map.Views.{list_any-from_Contains, tells_apart}
 use Rattle.std.proofs.lemmas.List.{map-append, take_all}
 use Rattle.std.proofs.lemmas.List.Elements.{Contains-push, Contains-append_left, Contains-append_cases}
 use Rattle.indexmap.specs.IndexSet.{insert_key}
 use Rattle.indexmap.proofs.CallerLemmas.{Contains-list_any}
 use Rattle.wh_words.specs.Tuples.{TupleData, Tuple, own_room, tuple_cmp, tuple_order, tuple_order_total}
 use Rattle.wh_words.specs.TupleTies.{same_from_tied}
-use Rattle.wh_cert.specs.Demands.{plains}
+use Rattle.wh_text.specs.AnswerData.{plains}
 use Rattle.wh_cert.specs.Listings.{HaveSameTuples, IsAdded}
 
 -- ---- membership
 tuple_cmp_total : IsTotalOrder tuple_cmp
 tuple_cmp_total = on_total own_room tuple_order_total
 
-eq_then_same : (o : Ordering) → is_eq o ≡ true → o ≡ Equal
-eq_then_same Less h = absurd (false≢true h)
-eq_then_same Equal h = refl
-eq_then_same Greater h = absurd (false≢true h)
-
 same_data : (s t : TupleData) → eq_by_cmp tuple_cmp s t ≡ true → s ≡ t
-same_data s t h = same_from_tied s t (eq_then_same (tuple_cmp s t) h)
+same_data = tells_apart same_from_tied
 
 any_plain : (ts : List Tuple) (t : Tuple) → list_any (eq_by_cmp tuple_order t) ts ≡ list_any (eq_by_cmp tuple_cmp t.plain) (plains ts)
 any_plain [] t = refl

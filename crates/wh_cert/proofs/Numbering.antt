@@ -1,20 +1,17 @@
 -- What is asked is asked of lines that there are.
 use Rattle.std.proofs.Common.{◌≡◌, ℕ, zero, suc, ◌+◌, ◌*◌, ◌<◌, ◌≤◌, List, [], ◌∷◌, ◌++◌, length, refl, sym, subst, arith, Result, Err}
 use Rattle.std.specs.List.{All}
-use Rattle.std.proofs.lemmas.List.{length-map}
 use Rattle.std.proofs.lemmas.List.Elements.{All-nil, All-cons, All-append, All-contains, Contains-append_right}
-use Rattle.wh_words.specs.Tuples.{TupleData, Tuple}
-use Rattle.wh_text.specs.declared.answer.Side.{Side}
-use Rattle.wh_text.specs.declared.answer.Verdict.{Verdict}
-use Rattle.wh_text.specs.declared.answer.Verdict.TheVariants as verdicts
-use Rattle.wh_text.specs.declared.answer.Answer.{Answer}
-use Rattle.wh_text.specs.declared.answer.Answer.TheVariants as answers
+use Rattle.wh_words.specs.Tuples.{TupleData}
+use Rattle.wh_text.specs.AnswerData.{SideData, VerdictData, AnswerData, CertificateData}
+use Rattle.wh_text.specs.AnswerData.VerdictData.{yes, no_length, no_level, undecided}
+use Rattle.wh_text.specs.AnswerData.AnswerData.{reduce, decide}
+use Rattle.wh_text.specs.Numberings.{side_lines, IsSideOfRank, IsVerdictOfRank, IsAnswerOfOneRank, IsNumbered, verdict_lines, answer_lines}
 use Rattle.wh_cert.specs.declared.checked.Rule.{Rule}
-use Rattle.wh_cert.specs.Demands.{Demand, Placed, fit_on_the_way, moves_carry, trace_ends, lengths_differ, lengths_agree, has_root, rises, has_height, is_absent, is_closed, tuple_at, asked_below, trace_asked, flow_asked, flows_asked, side_lines, side_asked, sides_asked, at_asked, level_asked, plains, verdict_asked, asked}
-use Rattle.wh_text.specs.declared.numbered.Numbered.{Numbered}
+use Rattle.wh_cert.specs.Demands.{Demand, Placed, fit_on_the_way, moves_carry, trace_ends, lengths_differ, lengths_agree, has_root, rises, has_height, is_absent, is_closed, tuple_at, asked_below, trace_asked, flow_asked, flows_asked, side_asked, sides_asked, at_asked, level_asked, verdict_asked, asked}
 use Rattle.wh_cert.specs.declared.stop.Stop.{Stop}
 use Rattle.wh_cert.specs.declared.stop.Stop.TheVariants.{Broken}
-use Rattle.wh_cert.specs.Checks.{IsFirstBroken, IsSideOfRank, IsVerdictOfRank, IsAnswerOfOneRank, IsNumbered, verdict_lines, kept_lines}
+use Rattle.wh_cert.specs.Checks.{IsFirstBroken}
 use Rattle.wh_cert.specs.Judged.{Judges}
 
 -- All demands are on lines before the line of number n.
@@ -44,27 +41,27 @@ unfolding asked_below
 below_before n asks zero h = no_lines n
 below_before n asks (suc m) h = lines_then n (asked_below asks m) (asks m) (below_before n asks m (λ k l. h k (omega (arith, l)))) (h m (omega arith))
 
-trace_before : (n place : ℕ) (t : TupleData) (s : Side) → place + 1 < n → AreBefore n (trace_asked place t s)
+trace_before : (n place : ℕ) (t : TupleData) (s : SideData) → place + 1 < n → AreBefore n (trace_asked place t s)
 trace_before n place t s l =
-    a_line n (place, fit_on_the_way t s.trace) ((place + 1, trace_ends t s.trace s.end.plain) ∷ []) (omega (arith, l)) (a_line n (place + 1, trace_ends t s.trace s.end.plain) [] l (no_lines n))
+    a_line n (place, fit_on_the_way t s.trace) ((place + 1, trace_ends t s.trace s.end) ∷ []) (omega (arith, l)) (a_line n (place + 1, trace_ends t s.trace s.end) [] l (no_lines n))
 
-flows_before : (n place from : ℕ) (heads : List (ℕ × ℕ)) (s : Side) → place + s.end.plain.rank ≤ n → AreBefore n (flows_asked place from heads s)
+flows_before : (n place from : ℕ) (heads : List (ℕ × ℕ)) (s : SideData) → place + s.end.rank ≤ n → AreBefore n (flows_asked place from heads s)
 flows_before n place from heads s l =
-    below_before n (flow_asked place from heads s) s.end.plain.rank (λ g h. All-cons (λ (e : Placed). e.0 < n) _ [] (omega (arith, l, h)) (no_lines n))
+    below_before n (flow_asked place from heads s) s.end.rank (λ g h. All-cons (λ (e : Placed). e.0 < n) _ [] (omega (arith, l, h)) (no_lines n))
 
-side_before : (n place : ℕ) (heads : List (ℕ × ℕ)) (t : TupleData) (s : Side) → IsSideOfRank t.rank s → place + side_lines t.rank ≤ n → AreBefore n (side_asked place heads t s)
+side_before : (n place : ℕ) (heads : List (ℕ × ℕ)) (t : TupleData) (s : SideData) → IsSideOfRank t.rank s → place + side_lines t.rank ≤ n → AreBefore n (side_asked place heads t s)
 side_before n place heads t s is l =
     lines_then n (trace_asked place t s) (flows_asked (place + 2) 0 heads s) (trace_before n place t s (omega (arith, l))) (flows_before n (place + 2) 0 heads s (omega (arith, l, is.end)))
 
-sides_before : (n place r : ℕ) (heads : List (ℕ × ℕ)) (s t : TupleData) (a b : Side) (lengths : TupleData → TupleData → Demand) → s.rank ≡ r → IsSideOfRank r a → IsSideOfRank r b →
+sides_before : (n place r : ℕ) (heads : List (ℕ × ℕ)) (s t : TupleData) (a b : SideData) (lengths : TupleData → TupleData → Demand) → s.rank ≡ r → IsSideOfRank r a → IsSideOfRank r b →
     place + 2 * side_lines r ≤ n → AreBefore n (sides_asked place r heads s t a b lengths)
 sides_before n place r heads s t a b lengths same left right l =
     lines_then n (side_asked place heads s a)
-    (trace_asked (place + side_lines r) t b ++ ((place + side_lines r + 1, lengths a.end.plain b.end.plain) ∷ flows_asked (place + side_lines r + 2) r heads b))
+    (trace_asked (place + side_lines r) t b ++ ((place + side_lines r + 1, lengths a.end b.end) ∷ flows_asked (place + side_lines r + 2) r heads b))
     (side_before n place heads s a (subst (λ (k : ℕ). IsSideOfRank k a) (sym same) left) (omega (arith, l, same)))
-    (lines_then n (trace_asked (place + side_lines r) t b) ((place + side_lines r + 1, lengths a.end.plain b.end.plain) ∷ flows_asked (place + side_lines r + 2) r heads b)
+    (lines_then n (trace_asked (place + side_lines r) t b) ((place + side_lines r + 1, lengths a.end b.end) ∷ flows_asked (place + side_lines r + 2) r heads b)
     (trace_before n (place + side_lines r) t b (omega (arith, l)))
-    (a_line n (place + side_lines r + 1, lengths a.end.plain b.end.plain) (flows_asked (place + side_lines r + 2) r heads b) (omega (arith, l))
+    (a_line n (place + side_lines r + 1, lengths a.end b.end) (flows_asked (place + side_lines r + 2) r heads b) (omega (arith, l))
     (flows_before n (place + side_lines r + 2) r heads b (omega (arith, l, right.end)))))
 
 at_before : (n place : ℕ) (root second : TupleData) (ts : List TupleData) (k : ℕ) → place + k < n → AreBefore n (at_asked place root second ts k)
@@ -78,25 +75,25 @@ level_before n place root second ts l =
     a_line n (place, has_root root ts) (asked_below (at_asked (place + 1) root second ts) (length ts)) (omega (arith, l))
     (below_before n (at_asked (place + 1) root second ts) (length ts) (λ k h. at_before n (place + 1) root second ts k (omega (arith, l, h))))
 
-verdict_before : (n : ℕ) (heads : List (ℕ × ℕ)) (s t : TupleData) (v : Verdict) → IsVerdictOfRank s.rank v → 5 + verdict_lines s.rank v < n → AreBefore n (verdict_asked heads s t v)
-verdict_before n heads s t (verdicts.Yes ms) is l =
+verdict_before : (n : ℕ) (heads : List (ℕ × ℕ)) (s t : TupleData) (v : VerdictData) → IsVerdictOfRank s.rank v → 5 + verdict_lines s.rank v < n → AreBefore n (verdict_asked heads s t v)
+verdict_before n heads s t (yes ms) is l =
     a_line n (5, fit_on_the_way s ms) ((5, moves_carry s ms t) ∷ []) (omega (arith, l)) (a_line n (5, moves_carry s ms t) [] (omega (arith, l)) (no_lines n))
-verdict_before n heads s t (verdicts.NoLength a b) is l = sides_before n 5 s.rank heads s t a b lengths_differ refl is.0 is.1 (omega (arith, l))
-verdict_before n heads s t (verdicts.NoLevel a b ts) is l =
-    lines_then n (sides_asked 5 s.rank heads s t a b lengths_agree) (level_asked (5 + 2 * side_lines s.rank) a.end.plain b.end.plain (plains ts))
+verdict_before n heads s t (no_length a b) is l = sides_before n 5 s.rank heads s t a b lengths_differ refl is.0 is.1 (omega (arith, l))
+verdict_before n heads s t (no_level a b ts) is l =
+    lines_then n (sides_asked 5 s.rank heads s t a b lengths_agree) (level_asked (5 + 2 * side_lines s.rank) a.end b.end ts)
     (sides_before n 5 s.rank heads s t a b lengths_agree refl is.0 is.1 (omega (arith, l)))
-    (level_before n (5 + 2 * side_lines s.rank) a.end.plain b.end.plain (plains ts) (omega (arith, l, length-map ts (λ (u : Tuple). u.plain))))
-verdict_before n heads s t (verdicts.Undecided bound) is l = no_lines n
+    (level_before n (5 + 2 * side_lines s.rank) a.end b.end ts (omega (arith, l)))
+verdict_before n heads s t (undecided bound) is l = no_lines n
 
-asked_before : (heads : List (ℕ × ℕ)) (answer : Answer) → IsAnswerOfOneRank answer → AreBefore (kept_lines answer) (asked heads answer)
-asked_before heads (answers.Reduce t s) is = side_before (3 + side_lines t.plain.rank + 1) 3 heads t.plain s is (omega arith)
-asked_before heads (answers.Decide s t v) is = verdict_before (5 + verdict_lines s.plain.rank v + 1) heads s.plain t.plain v is.1 (omega arith)
+asked_before : (heads : List (ℕ × ℕ)) (answer : AnswerData) → IsAnswerOfOneRank answer → AreBefore (answer_lines answer) (asked heads answer)
+asked_before heads (reduce t s) is = side_before (3 + side_lines t.rank + 1) 3 heads t s is (omega arith)
+asked_before heads (decide s t v) is = verdict_before (5 + verdict_lines s.rank v + 1) heads s t v is.1 (omega arith)
 
-pub broken_line : (heads : List (ℕ × ℕ)) (answer : Answer) (place : ℕ) (rule : Rule) → IsAnswerOfOneRank answer → IsFirstBroken (asked heads answer) place rule → place < kept_lines answer
-broken_line heads answer place rule is first = broken_before (kept_lines answer) (asked heads answer) place rule (asked_before heads answer is) first
+pub broken_line : (heads : List (ℕ × ℕ)) (answer : AnswerData) (place : ℕ) (rule : Rule) → IsAnswerOfOneRank answer → IsFirstBroken (asked heads answer) place rule → place < answer_lines answer
+broken_line heads answer place rule is first = broken_before (answer_lines answer) (asked heads answer) place rule (asked_before heads answer is) first
 
 -- The line of a certificate where judging stops has a number.
-pub judged_line : (n : Numbered) (r : Result (Unit {0}) Stop) (place : ℕ) (rule : Rule) → IsNumbered n → Judges (asked n.flow_heads n.answer) r → r ≡ Err (Broken place rule) → place < length n.lines
-judged_line n r place rule is judged e =
-    let first : IsFirstBroken (asked n.flow_heads n.answer) place rule = subst (Judges (asked n.flow_heads n.answer)) e judged in
-    omega (arith, broken_line n.flow_heads n.answer place rule is.answer first, is.lines)
+pub judged_line : (c : CertificateData) (r : Result (Unit {0}) Stop) (place : ℕ) (rule : Rule) → IsNumbered c → Judges (asked c.flow_heads c.answer) r → r ≡ Err (Broken place rule) → place < length c.lines
+judged_line c r place rule is judged e =
+    let first : IsFirstBroken (asked c.flow_heads c.answer) place rule = subst (Judges (asked c.flow_heads c.answer)) e judged in
+    omega (arith, broken_line c.flow_heads c.answer place rule is.answer first, is.lines)

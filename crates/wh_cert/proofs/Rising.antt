@@ -1,14 +1,16 @@
 -- The tuples of a level, as the program compares each with the one before it.
-use Rattle.std.proofs.Common.{◌≡◌, ◌≢◌, ℕ, zero, suc, ◌-◌, ◌<◌, Bool, true, false, not, List, [], length, get_or, refl, sym, ap, ◌∙◌, ◌↔◌, IsTrue, nat_eq, arith}
+use Rattle.std.proofs.Common.{◌≡◌, ◌≢◌, ℕ, zero, suc, ◌-◌, ◌<◌, ◌≤◌, Bool, true, false, not, List, [], length, get_or, refl, sym, ap, ◌∙◌, ◌↔◌, IsTrue, nat_eq, arith}
+use Rattle.std.specs.Prelude.{Contains}
 use Rattle.std.specs.Bool.{MatchBool}
+use Rattle.std.specs.List.{All}
 use Rattle.std.specs.Ordering.{is_lt}
 use Rattle.std.specs.declared.cmp.Ordering.{Ordering}
 use Rattle.std.specs.declared.cmp.Ordering.TheVariants.{Less, Equal, Greater}
 use Rattle.std.proofs.lemmas.Bool.{true≢false, false≢true, eqb-true, eq-eqb}
 use Rattle.std.proofs.lemmas.List.{get_or-map, length-map}
-use Rattle.std.specs.Prelude.{Contains}
 use Rattle.wh_words.specs.Tuples.{TupleData, Tuple, tuple_cmp}
-use Rattle.wh_cert.specs.Demands.{Rises, tuple_at, plains}
+use Rattle.wh_text.specs.AnswerData.{plains}
+use Rattle.wh_cert.specs.Demands.{Rises, tuple_at}
 
 -- What stands at a place of the data is the data of what stands there.
 pub plain_at : (ts : List Tuple) (k : ℕ) (t : Tuple) → k < length ts → t ≡ get_or ts k t → t.plain ≡ tuple_at (plains ts) k
@@ -50,3 +52,9 @@ other_numbers_tested m n k l e f = by (nat_eq m n) (eqb-true m n) (eq-eqb m n)
 
 pub plain_listed : (ts : List Tuple) (k : ℕ) (t : Tuple) → k < length ts → t ≡ get_or ts k t → Contains (plains ts) t.plain
 plain_listed ts k t l e = (k, omega (arith, l, length-map ts (λ (u : Tuple). u.plain)), get_or-map (λ (u : Tuple). u.plain) ts k t t.plain l ∙ ap (λ (u : Tuple). u.plain) (sym e))
+
+-- The ranks of tuples are those of their data.
+pub low_ranks : (n : ℕ) (ts : List Tuple) → All (λ t. t.rank ≡ n) (plains ts) → n ≤ 6 → All (λ t. t.plain.rank ≤ 6) ts
+low_ranks n ts h low k d l =
+    let own : (get_or (plains ts) k d.plain).rank ≡ n = h k d.plain (omega (arith, l, length-map ts (λ (u : Tuple). u.plain))) in
+    omega (arith, own, ap (λ (t : TupleData). t.rank) (get_or-map (λ (u : Tuple). u.plain) ts k d d.plain l), low)

@@ -1,20 +1,21 @@
--- Which moves are level moves, and what is left to try once the swaps, the inversions and the cuts with generators as multipliers are.
-use Rattle.std.proofs.Common.{◌≡◌, Bool, false, ◌≢◌, ℕ, ◌+◌, ◌*◌, ◌/◌, ◌^◌, ◌<◌, ◌≤◌, List, refl, sym, ap, ◌∙◌, subst, inl, inr, ◌↔◌, IsTrue, arith}
+-- What is left to try once the swaps, the inversions and the cuts with generators as multipliers are.
+use Rattle.std.proofs.Common.{◌≡◌, Bool, false, ◌≢◌, ℕ, ◌+◌, ◌*◌, ◌/◌, ◌^◌, ◌<◌, List, refl, sym, ap, ◌∙◌, subst, inl, inr, ◌↔◌, IsTrue, arith}
 use Rattle.std.specs.Prelude.{Contains}
 use Rattle.std.proofs.lemmas.Bool.{cases_eq, cases_lt, true≢false}
 use Rattle.wh_words.specs.Letters.{inverse_letter}
 use Rattle.wh_words.specs.LetterSets.{in_set}
 use Rattle.wh_words.specs.Tuples.{TupleData, IsTuple, tuple_length}
-use Rattle.wh_words.specs.Moves.{Move, Kind, IsCut, IsIdentityCut, cut_move}
+use Rattle.wh_words.specs.Moves.{Move, Kind, IsCut, cut_move}
 use Rattle.wh_words.specs.Moves.Kind.{swap, invert, cut}
 use Rattle.wh_words.specs.Action.{act}
 use Rattle.wh_words.specs.Levels.{IsLevelMove}
 use Rattle.wh_words.specs.Edges.{cap, deg}
-use Rattle.wh_graph.proofs.Lengths.{length_law, swaps_keep, inversions_keep}
+use Rattle.wh_moves.proofs.IdentityCuts.{identity_acts}
+use Rattle.wh_graph.proofs.LevelMoves.{level_cut}
+use Rattle.wh_graph.proofs.ComplementCuts.{generator_of, complement, complement_flips, complement_cut}
 use Rattle.wh_cert.specs.Demands.{ImagesAreIn}
 use Rattle.wh_cert.specs.Listings.{HaveSameTuples, StaysIn, SwapsStay, InversionsStay, CutsStay}
-use Rattle.wh_cert.proofs.Complements.{turned_acts, generator_of, complement, complement_flips, complement_cut}
-use Rattle.wh_cert.proofs.IdentityCuts.{identity_acts}
+use Rattle.wh_cert.proofs.Complements.{turned_acts}
 
 -- ---- one after another
 pub next_before : (P : ℕ → Type 0) (k : ℕ) → ((j : ℕ) → j < k → P j) → P k → (j : ℕ) → j < k + 1 → P j
@@ -27,52 +28,7 @@ next_before P k h p j l = elim (cases_lt j k) [
 pub not_all : (P : ℕ → Type 0) (k : ℕ) (b : Bool) → IsTrue b ↔ P k → b ≡ false → ¬ ((j : ℕ) → P j)
 not_all P k b exact e all = true≢false (sym (exact.1 (all k)) ∙ e)
 
--- ---- level moves
-module _ (t : TupleData) (is : IsTuple t) (rank : t.rank ≤ 26) where
-  pub swap_level : (k : ℕ) → 0 < k → k < t.rank → IsLevelMove t (record { rank = t.rank; kind = swap k })
-  swap_level k h l = record {
-    valid = record { rank = rank; kind = (h, l) };
-    rank = refl;
-    kept = swaps_keep t k t.rank is (h, l);
-    moves = λ e. e;
-  }
-
-  pub invert_level : (k : ℕ) → 0 < k → k ≤ t.rank → IsLevelMove t (record { rank = t.rank; kind = invert k })
-  invert_level k h l = record {
-    valid = record { rank = rank; kind = (h, l) };
-    rank = refl;
-    kept = inversions_keep t k t.rank is (h, l);
-    moves = λ e. e;
-  }
-
-  -- A cut keeps the length where its set has the degree of the multiplier as its capacity.
-  pub cut_level : (a set : ℕ) → IsCut t.rank a set → cap (in_set set) t ≡ deg a t → set ≢ 2 ^ a → IsLevelMove t (cut_move t.rank a set)
-  cut_level a set v e n = record {
-    valid = record { rank = rank; kind = v };
-    rank = refl;
-    kept = omega (arith, e, length_law t a set is v);
-    moves = n;
-  }
-
-pub level_cut : (t : TupleData) → IsTuple t → (a set : ℕ) → IsLevelMove t (cut_move t.rank a set) → cap (in_set set) t ≡ deg a t
-level_cut t is a set m = omega (arith, m.kept, length_law t a set is m.valid.kind)
-
--- ---- moves as they are made
-module _ (t : TupleData) (is : IsTuple t) (n : ℕ) (same : n ≡ t.rank) (rank : t.rank ≤ 26) (m : Move) where
-  pub made_swap_level : (k : ℕ) → m ≡ record { rank = n; kind = swap k } → 0 < k → k < n → IsLevelMove t m
-  made_swap_level k e h l =
-      subst (IsLevelMove t) (sym (e ∙ ap (λ (r : ℕ). record { rank = r; kind = swap k }) same)) (swap_level t is rank k h (omega (arith, l, same)))
-
-  pub made_invert_level : (k : ℕ) → m ≡ record { rank = n; kind = invert k } → 0 < k → k ≤ n → IsLevelMove t m
-  made_invert_level k e h l =
-      subst (IsLevelMove t) (sym (e ∙ ap (λ (r : ℕ). record { rank = r; kind = invert k }) same)) (invert_level t is rank k h (omega (arith, l, same)))
-
-  pub made_cut_level : (a set : ℕ) → m ≡ cut_move n a set → IsCut n a set → cap (in_set set) t ≡ deg a t → ¬ (IsIdentityCut m.kind) → IsLevelMove t m
-  made_cut_level a set e v keeps moves =
-      let own : m ≡ cut_move t.rank a set = e ∙ ap (λ (r : ℕ). cut_move r a set) same in
-      subst (IsLevelMove t) (sym own)
-      (cut_level t is rank a set (subst (λ (r : ℕ). IsCut r a set) same v) keeps (λ q. moves (subst (λ (k : Move). IsIdentityCut k.kind) (sym own) q)))
-
+-- ---- one move
 -- A level move as it is made stays where its image is in the list.
 pub made_stays : (us : List TupleData) (t : TupleData) (m made : Move) (b : Bool) → m ≡ made → IsLevelMove t m → IsTrue b ↔ Contains us (act t m) → IsTrue b ↔ StaysIn us t made
 made_stays us t m made b e level is_in = (
@@ -80,11 +36,9 @@ made_stays us t m made b e level is_in = (
   λ s. is_in.1 (subst (λ (k : Move). Contains us (act t k)) (sym e) (s (subst (IsLevelMove t) e level))),
 )
 
--- ---- what stays
-module _ (us : List TupleData) (t : TupleData) where
-  -- A set of another capacity makes no level move.
-  pub other_capacity : (a set : ℕ) → IsTuple t → cap (in_set set) t ≢ deg a t → StaysIn us t (cut_move t.rank a set)
-  other_capacity a set is n m = absurd (n (level_cut t is a set m))
+-- A set of another capacity makes no level move.
+pub other_capacity : (us : List TupleData) (t : TupleData) (a set : ℕ) → IsTuple t → cap (in_set set) t ≢ deg a t → StaysIn us t (cut_move t.rank a set)
+other_capacity us t a set is n m = absurd (n (level_cut t is a set m))
 
 -- ---- all moves
 module _ (us : List TupleData) (t : TupleData) (is : IsTuple t) (own : Contains us t) (cuts : CutsStay us t) where
@@ -97,7 +51,7 @@ module _ (us : List TupleData) (t : TupleData) (is : IsTuple t) (own : Contains 
       let same : act t (cut_move t.rank a set) ≡ act t (cut_move t.rank x (complement t.rank set)) =
       ap (λ (b : ℕ). act t (cut_move t.rank b set)) e ∙ turned_acts t x (complement t.rank set) set is other turned (λ y l. complement_flips t.rank set y l) in
       subst (Contains us) (sym same) (elim (cases_eq (complement t.rank set) (2 ^ x)) [
-        | inl alone ↦ subst (Contains us) (sym (identity_acts t x (complement t.rank set) is alone)) own
+        | inl alone ↦ subst (Contains us) (sym (identity_acts t (cut_move t.rank x (complement t.rank set)) is alone)) own
         | inr more ↦
             cuts (a / 2) (complement t.rank set) (record {
               valid = record { rank = level.valid.rank; kind = other };

@@ -1,8 +1,8 @@
 -- What is asked of the lines of a certificate, in order, after Lyndon and Schupp, I.4, and Roig, Ventura and Weil 2007.
-use Rattle.std.specs.Prelude.{◌≡◌, ◌≢◌, ℕ, zero, suc, ◌+◌, ◌*◌, List, [], ◌∷◌, ◌++◌, length, map, get_or, Contains}
+use Rattle.std.specs.Prelude.{◌≡◌, ◌≢◌, ℕ, zero, suc, ◌+◌, ◌*◌, List, [], ◌∷◌, ◌++◌, length, get_or, Contains}
 use Rattle.std.specs.declared.cmp.Ordering.TheVariants.{Less}
 use Rattle.wh_words.specs.Letters.{inverse_letter}
-use Rattle.wh_words.specs.Tuples.{TupleData, Tuple, tuple_length, tuple_cmp}
+use Rattle.wh_words.specs.Tuples.{TupleData, tuple_length, tuple_cmp}
 use Rattle.wh_words.specs.Moves.{Move}
 use Rattle.wh_words.specs.Action.{act, act_all}
 use Rattle.wh_words.specs.Levels.{IsLevelMove}
@@ -11,11 +11,10 @@ use Rattle.wh_words.specs.Flows.{IsFlow, HasValue}
 use Rattle.wh_words.specs.TupleFlows.{edge_table}
 use Rattle.wh_flow.specs.Nets.{cell}
 use Rattle.wh_moves.specs.Acts.{FitsOnTheWay}
-use Rattle.wh_text.specs.declared.answer.Side.{Side}
-use Rattle.wh_text.specs.declared.answer.Verdict.{Verdict}
-use Rattle.wh_text.specs.declared.answer.Verdict.TheVariants as verdicts
-use Rattle.wh_text.specs.declared.answer.Answer.{Answer}
-use Rattle.wh_text.specs.declared.answer.Answer.TheVariants as answers
+use Rattle.wh_text.specs.AnswerData.{SideData, VerdictData, AnswerData}
+use Rattle.wh_text.specs.AnswerData.VerdictData.{yes, no_length, no_level, undecided}
+use Rattle.wh_text.specs.AnswerData.AnswerData.{reduce, decide}
+use Rattle.wh_text.specs.Numberings.{side_lines}
 use Rattle.wh_cert.specs.declared.checked.Rule.{Rule}
 use Rattle.wh_cert.specs.declared.checked.Rule.TheVariants as rules
 
@@ -104,31 +103,27 @@ asked_below asked zero = []
 asked_below asked (suc k) = asked_below asked k ++ asked k
 
 -- Of the `trace` line and the `end` line of a tuple's side.
-abbrev pub trace_asked : ℕ → TupleData → Side → List Placed
-trace_asked place t s = (place, fit_on_the_way t s.trace) ∷ (place + 1, trace_ends t s.trace s.end.plain) ∷ []
+abbrev pub trace_asked : ℕ → TupleData → SideData → List Placed
+trace_asked place t s = (place, fit_on_the_way t s.trace) ∷ (place + 1, trace_ends t s.trace s.end) ∷ []
 
 -- Of the `flow` line of generator g, where the lines of the side are numbered from `from` among all `flow` lines.
-abbrev pub flow_asked : ℕ → ℕ → List (ℕ × ℕ) → Side → ℕ → List Placed
-flow_asked place from heads s g = (place + g, has_flow s.end.plain g (get_or heads (from + g) (0, 0)) (get_or s.flows g [])) ∷ []
+abbrev pub flow_asked : ℕ → ℕ → List (ℕ × ℕ) → SideData → ℕ → List Placed
+flow_asked place from heads s g = (place + g, has_flow s.end g (get_or heads (from + g) (0, 0)) (get_or s.flows g [])) ∷ []
 
 -- Of the `flow` lines of a side, one for each generator.
-abbrev pub flows_asked : ℕ → ℕ → List (ℕ × ℕ) → Side → List Placed
-flows_asked place from heads s = asked_below (flow_asked place from heads s) s.end.plain.rank
-
--- How many lines a side of rank n has.
-abbrev pub side_lines : ℕ → ℕ
-side_lines n = n + 2
+abbrev pub flows_asked : ℕ → ℕ → List (ℕ × ℕ) → SideData → List Placed
+flows_asked place from heads s = asked_below (flow_asked place from heads s) s.end.rank
 
 -- Of the lines of a side.
-abbrev pub side_asked : ℕ → List (ℕ × ℕ) → TupleData → Side → List Placed
+abbrev pub side_asked : ℕ → List (ℕ × ℕ) → TupleData → SideData → List Placed
 side_asked place heads t s = trace_asked place t s ++ flows_asked (place + 2) 0 heads s
 
 -- Of the lines of two sides of rank n, where something is asked of the two ends too, in the second `end` line.
-abbrev pub sides_asked : ℕ → ℕ → List (ℕ × ℕ) → TupleData → TupleData → Side → Side → (TupleData → TupleData → Demand) → List Placed
+abbrev pub sides_asked : ℕ → ℕ → List (ℕ × ℕ) → TupleData → TupleData → SideData → SideData → (TupleData → TupleData → Demand) → List Placed
 sides_asked place n heads s t a b lengths =
     side_asked place heads s a
     ++ (trace_asked (place + side_lines n) t b
-    ++ ((place + side_lines n + 1, lengths a.end.plain b.end.plain) ∷ flows_asked (place + side_lines n + 2) n heads b))
+    ++ ((place + side_lines n + 1, lengths a.end b.end) ∷ flows_asked (place + side_lines n + 2) n heads b))
 
 -- Of the `at` line of a tuple of a level, at a place among them.
 abbrev pub at_asked : ℕ → TupleData → TupleData → List TupleData → ℕ → List Placed
@@ -143,19 +138,15 @@ at_asked place root second ts k =
 abbrev pub level_asked : ℕ → TupleData → TupleData → List TupleData → List Placed
 level_asked place root second ts = (place, has_root root ts) ∷ asked_below (at_asked (place + 1) root second ts) (length ts)
 
--- The data of tuples.
-abbrev pub plains : List Tuple → List TupleData
-plains ts = map (λ t. t.plain) ts
-
 -- Of the lines after the verdict of two tuples. Five lines stand before them.
-abbrev pub verdict_asked : List (ℕ × ℕ) → TupleData → TupleData → Verdict → List Placed
-verdict_asked heads s t (verdicts.Yes ms) = (5, fit_on_the_way s ms) ∷ (5, moves_carry s ms t) ∷ []
-verdict_asked heads s t (verdicts.NoLength a b) = sides_asked 5 s.rank heads s t a b lengths_differ
-verdict_asked heads s t (verdicts.NoLevel a b ts) =
-    sides_asked 5 s.rank heads s t a b lengths_agree ++ level_asked (5 + 2 * side_lines s.rank) a.end.plain b.end.plain (plains ts)
-verdict_asked heads s t (verdicts.Undecided bound) = []
+abbrev pub verdict_asked : List (ℕ × ℕ) → TupleData → TupleData → VerdictData → List Placed
+verdict_asked heads s t (yes ms) = (5, fit_on_the_way s ms) ∷ (5, moves_carry s ms t) ∷ []
+verdict_asked heads s t (no_length a b) = sides_asked 5 s.rank heads s t a b lengths_differ
+verdict_asked heads s t (no_level a b ts) =
+    sides_asked 5 s.rank heads s t a b lengths_agree ++ level_asked (5 + 2 * side_lines s.rank) a.end b.end ts
+verdict_asked heads s t (undecided bound) = []
 
 -- Of all lines of an answer, whose `flow` lines tell these letters and values. Three lines stand before a side of `reduce`.
-abbrev pub asked : List (ℕ × ℕ) → Answer → List Placed
-asked heads (answers.Reduce t s) = side_asked 3 heads t.plain s
-asked heads (answers.Decide s t v) = verdict_asked heads s.plain t.plain v
+abbrev pub asked : List (ℕ × ℕ) → AnswerData → List Placed
+asked heads (reduce t s) = side_asked 3 heads t s
+asked heads (decide s t v) = verdict_asked heads s t v

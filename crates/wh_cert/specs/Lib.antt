@@ -3,4 +3,4 @@ pub mod Demands
 pub mod Checks
 pub mod Judged
 pub mod Listings
-pub mod CapacityTables
+pub mod Laws

@@ -2,10 +2,12 @@
 ghost use Rattle.std.specs.Prelude.{◌≡◌, ◌↔◌, ◌+◌, ◌*◌, ◌<◌, ◌≤◌, [], ◌∷◌, ◌++◌, length, get_or, IsTrue, IfOk};
 ghost use Rattle.std.specs.List.{All};
 ghost use Rattle.wh_words.specs.Tuples.{TupleData};
+ghost use Rattle.wh_text.specs.AnswerData.{plains, side_of, verdict_of, answer_of, certificate_of};
+ghost use Rattle.wh_text.specs.Numberings.{IsNumbered, IsSideOfRank, IsVerdictOfRank, IsAnswerOfOneRank, verdict_flows, flow_lines};
+ghost use Rattle.wh_text.specs.Numberings as spec;
 ghost use Rattle.wh_cert.specs.declared.checked.Rule.TheVariants as rules;
-ghost use Rattle.wh_cert.specs.Demands.{Demand, rule_of, IsMet, fit_on_the_way, moves_carry, lengths_differ, lengths_agree, plains, level_asked, trace_asked, flows_asked, side_asked, sides_asked, verdict_asked, asked};
-ghost use Rattle.wh_cert.specs.Demands as spec;
-ghost use Rattle.wh_cert.specs.Checks.{Checks, IsNumbered, IsSideOfRank, IsVerdictOfRank, IsAnswerOfOneRank, verdict_flows, flow_lines};
+ghost use Rattle.wh_cert.specs.Demands.{Demand, rule_of, IsMet, fit_on_the_way, moves_carry, lengths_differ, lengths_agree, level_asked, trace_asked, flows_asked, side_asked, sides_asked, verdict_asked, asked};
+ghost use Rattle.wh_cert.specs.Checks.{Checks};
 ghost use Rattle.wh_cert.specs.Judged.{Judges};
 
 use crate::checked::{Checked, Rule};
@@ -56,10 +58,10 @@ fn judge_side(
     tuple: &Tuple,
     side: &Side,
 ) -> Result<(), Stop>
-    requires side { IsSideOfRank tuple.now.plain.rank side.now }
+    requires side { IsSideOfRank tuple.now.plain.rank (side_of side.now) }
     requires heads { tuple.now.plain.rank ≤ length heads.now }
     requires low { place ≤ 500 }
-    ensures { Judges (side_asked place heads.now tuple.now.plain side.now) result }
+    ensures { Judges (side_asked place heads.now tuple.now.plain (side_of side.now)) result }
 {
     judge_trace(alloc, place, tuple, side)?;
     judge_flows(place + 2, 0, heads, side)
@@ -75,10 +77,10 @@ fn judge_second(
     side: &Side,
     met: bool,
 ) -> Result<(), Stop>
-    requires side { IsSideOfRank tuple.now.plain.rank side.now }
+    requires side { IsSideOfRank tuple.now.plain.rank (side_of side.now) }
     requires heads { 2 * tuple.now.plain.rank ≤ length heads.now }
     requires low { place ≤ 500 }
-    ensures { (lengths : Demand) → rules.Length ≡ rule_of lengths → (IsTrue met ↔ IsMet lengths) → Judges (trace_asked place tuple.now.plain side.now ++ ((place + 1, lengths) ∷ flows_asked (place + 2) tuple.now.plain.rank heads.now side.now)) result }
+    ensures { (lengths : Demand) → rules.Length ≡ rule_of lengths → (IsTrue met ↔ IsMet lengths) → Judges (trace_asked place tuple.now.plain (side_of side.now) ++ ((place + 1, lengths) ∷ flows_asked (place + 2) tuple.now.plain.rank heads.now (side_of side.now))) result }
 {
     judge_trace(alloc, place, tuple, side)?;
     ask(place + 1, Rule::Length, met)?;
@@ -96,10 +98,10 @@ fn judge_sides(
     met: bool,
 ) -> Result<(), Stop>
     requires one_rank { second.now.plain.rank ≡ first.now.plain.rank }
-    requires a { IsSideOfRank first.now.plain.rank a.now }
-    requires b { IsSideOfRank first.now.plain.rank b.now }
+    requires a { IsSideOfRank first.now.plain.rank (side_of a.now) }
+    requires b { IsSideOfRank first.now.plain.rank (side_of b.now) }
     requires heads { 2 * first.now.plain.rank ≤ length heads.now }
-    ensures { (lengths : TupleData → TupleData → Demand) → rules.Length ≡ rule_of (lengths a.now.end.plain b.now.end.plain) → (IsTrue met ↔ IsMet (lengths a.now.end.plain b.now.end.plain)) → Judges (sides_asked 5 first.now.plain.rank heads.now first.now.plain second.now.plain a.now b.now lengths) result }
+    ensures { (lengths : TupleData → TupleData → Demand) → rules.Length ≡ rule_of (lengths a.now.end.plain b.now.end.plain) → (IsTrue met ↔ IsMet (lengths a.now.end.plain b.now.end.plain)) → Judges (sides_asked 5 first.now.plain.rank heads.now first.now.plain second.now.plain (side_of a.now) (side_of b.now) lengths) result }
 {
     judge_side(alloc, BEFORE_SIDES, heads, first, a)?;
     judge_second(
@@ -122,10 +124,10 @@ fn judge_no_length(
     b: &Side,
 ) -> Result<(), Stop>
     requires one_rank { second.now.plain.rank ≡ first.now.plain.rank }
-    requires a { IsSideOfRank first.now.plain.rank a.now }
-    requires b { IsSideOfRank first.now.plain.rank b.now }
+    requires a { IsSideOfRank first.now.plain.rank (side_of a.now) }
+    requires b { IsSideOfRank first.now.plain.rank (side_of b.now) }
     requires heads { 2 * first.now.plain.rank ≤ length heads.now }
-    ensures { Judges (sides_asked 5 first.now.plain.rank heads.now first.now.plain second.now.plain a.now b.now lengths_differ) result }
+    ensures { Judges (sides_asked 5 first.now.plain.rank heads.now first.now.plain second.now.plain (side_of a.now) (side_of b.now) lengths_differ) result }
 {
     let met = a.end.length() != b.end.length();
     judge_sides(alloc, heads, first, second, a, b, met)
@@ -142,11 +144,11 @@ fn judge_no_level(
     tuples: &[Tuple],
 ) -> Result<(), Stop>
     requires one_rank { second.now.plain.rank ≡ first.now.plain.rank }
-    requires a { IsSideOfRank first.now.plain.rank a.now }
-    requires b { IsSideOfRank first.now.plain.rank b.now }
+    requires a { IsSideOfRank first.now.plain.rank (side_of a.now) }
+    requires b { IsSideOfRank first.now.plain.rank (side_of b.now) }
     requires heads { 2 * first.now.plain.rank ≤ length heads.now }
     requires ranks { All (λ t. t.plain.rank ≤ 6) tuples.now }
-    ensures { Judges (sides_asked 5 first.now.plain.rank heads.now first.now.plain second.now.plain a.now b.now lengths_agree ++ level_asked (5 + 2 * spec.side_lines first.now.plain.rank) a.now.end.plain b.now.end.plain (plains tuples.now)) result }
+    ensures { Judges (sides_asked 5 first.now.plain.rank heads.now first.now.plain second.now.plain (side_of a.now) (side_of b.now) lengths_agree ++ level_asked (5 + 2 * spec.side_lines first.now.plain.rank) a.now.end.plain b.now.end.plain (plains tuples.now)) result }
 {
     let met = a.end.length() == b.end.length();
     judge_sides(alloc, heads, first, second, a, b, met)?;
@@ -163,9 +165,9 @@ fn judge_verdict(
     verdict: &Verdict,
 ) -> Result<(), Stop>
     requires one_rank { second.now.plain.rank ≡ first.now.plain.rank }
-    requires verdict { IsVerdictOfRank first.now.plain.rank verdict.now }
-    requires heads { length heads.now ≡ verdict_flows first.now.plain.rank verdict.now }
-    ensures { Judges (verdict_asked heads.now first.now.plain second.now.plain verdict.now) result }
+    requires verdict { IsVerdictOfRank first.now.plain.rank (verdict_of verdict.now) }
+    requires heads { length heads.now ≡ verdict_flows first.now.plain.rank (verdict_of verdict.now) }
+    ensures { Judges (verdict_asked heads.now first.now.plain second.now.plain (verdict_of verdict.now)) result }
 {
     match verdict {
         Verdict::Yes(moves) => judge_moves(alloc, BEFORE_SIDES, first, second, moves.items()),
@@ -180,9 +182,9 @@ fn judge_verdict(
 
 /// Judges the lines of an answer whose `flow` lines name these letters and values.
 fn judge_answer(alloc: Global, heads: &[(Letter, u32)], answer: &Answer) -> Result<(), Stop>
-    requires answer { IsAnswerOfOneRank answer.now }
-    requires heads { length heads.now ≡ flow_lines answer.now }
-    ensures { Judges (asked heads.now answer.now) result }
+    requires answer { IsAnswerOfOneRank (answer_of answer.now) }
+    requires heads { length heads.now ≡ flow_lines (answer_of answer.now) }
+    ensures { Judges (asked heads.now (answer_of answer.now)) result }
 {
     match answer {
         Answer::Reduce { tuple, side } => judge_side(alloc, 3, heads, tuple, side),
@@ -207,8 +209,8 @@ fn number_at(lines: &[u32], place: usize) -> u32
 /// every swap, every inversion and every set of letters is tried as a level move; nothing is taken from the search for the
 /// answer (Lyndon and Schupp, I.4; Roig, Ventura and Weil 2007).
 pub fn check(alloc: Global, numbered: &Numbered) -> Result<Checked, OutOfMemory>
-    requires { IsNumbered numbered.now }
-    ensures { IfOk result (Checks numbered.now) }
+    requires { IsNumbered (certificate_of numbered.now) }
+    ensures { IfOk result (Checks (certificate_of numbered.now)) }
 {
     match judge_answer(alloc, numbered.flow_heads.items(), &numbered.answer) {
         Ok(()) => Ok(Checked::Valid),

@@ -9,13 +9,12 @@ ghost use Rattle.wh_words.specs.Levels.{IsLevelMove};
 ghost use Rattle.wh_graph.specs.Graphs.{IsGraph};
 ghost use Rattle.wh_cert.specs.Demands.{ImagesAreIn};
 ghost use Rattle.wh_cert.specs.Listings.{StaysIn, SwapsStay, InversionsStay, CutsStayWith, CutsStay, IsRoomy};
-ghost use Rattle.wh_cert.specs.CapacityTables.{IsTable, tuple_capacity};
+ghost use Rattle.wh_graph.specs.CapacityTables.{IsTable, tuple_capacity};
 
-use crate::capacity_table::capacity_table;
 use crate::listed::Listed;
 use std::alloc::Global;
 use wh_flow::Net;
-use wh_graph::{deg, graph};
+use wh_graph::{capacity_table, deg, graph};
 use wh_moves::{Move, act_into};
 use wh_words::{Letter, LetterSet, OutOfMemory, Tuple};
 

@@ -2,7 +2,8 @@
 ghost use Rattle.std.specs.Prelude.{◌↔◌, ◌+◌, ◌<◌, ◌≤◌, List, [], ◌∷◌, length, Contains, IsTrue, IfOk};
 ghost use Rattle.std.specs.List.{All};
 ghost use Rattle.wh_words.specs.Tuples.{TupleData};
-ghost use Rattle.wh_cert.specs.Demands.{Rises, rises, has_height, is_absent, is_closed, tuple_at, plains, asked_below, at_asked, level_asked};
+ghost use Rattle.wh_text.specs.AnswerData.{plains};
+ghost use Rattle.wh_cert.specs.Demands.{Rises, rises, has_height, is_absent, is_closed, tuple_at, asked_below, at_asked, level_asked};
 ghost use Rattle.wh_cert.specs.Listings.{HaveSameTuples, IsRoomy};
 ghost use Rattle.wh_cert.specs.Judged.{Judges};
 

@@ -1,10 +1,10 @@
 //! Certificates: answers that were read from a text, judged by rules alone.
 #![tactic(auto)]
 
-mod capacity_table;
 mod certificate;
 mod checked;
 mod images;
+pub mod laws;
 mod levels;
 mod listed;
 mod sides;

@@ -1,6 +1,6 @@
 //! The tuples of a level, found by their hash.
 ghost use Rattle.std.specs.Prelude.{◌≡◌, ◌↔◌, [], IsTrue, Contains, IfOk, OnOk};
-ghost use Rattle.wh_cert.specs.Demands.{plains};
+ghost use Rattle.wh_text.specs.AnswerData.{plains};
 ghost use Rattle.wh_cert.specs.Listings.{HaveSameTuples, IsAdded};
 
 use indexmap::IndexSet;
@@ -17,7 +17,7 @@ pub(crate) struct Listed {
 impl Model for Listed {
     ghost use Rattle.std.specs.Prelude.{List};
     ghost use Rattle.wh_words.specs.Tuples.{TupleData};
-    ghost use Rattle.wh_cert.specs.Demands.{plains};
+    ghost use Rattle.wh_text.specs.AnswerData.{plains};
 
     ghost Value = { List TupleData };
 

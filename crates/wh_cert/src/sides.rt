@@ -5,8 +5,9 @@ ghost use Rattle.wh_words.specs.Tuples.{TupleData, IsTuple};
 ghost use Rattle.wh_words.specs.Flows.{HasValue};
 ghost use Rattle.wh_flow.specs.Nets.{cell};
 ghost use Rattle.wh_graph.specs.Graphs.{IsGraph};
+ghost use Rattle.wh_text.specs.AnswerData.{side_of};
+ghost use Rattle.wh_text.specs.Numberings.{IsSideOfRank};
 ghost use Rattle.wh_cert.specs.Demands.{IsGeneratorFlow, trace_asked, flows_asked};
-ghost use Rattle.wh_cert.specs.Checks.{IsSideOfRank};
 ghost use Rattle.wh_cert.specs.Judged.{Judges, CarriesTo};
 
 use crate::checked::Rule;
@@ -42,9 +43,9 @@ pub(crate) fn judge_trace(
     tuple: &Tuple,
     side: &Side,
 ) -> Result<(), Stop>
-    requires side { IsSideOfRank tuple.now.plain.rank side.now }
+    requires side { IsSideOfRank tuple.now.plain.rank (side_of side.now) }
     requires low { place ≤ 1000 }
-    ensures { Judges (trace_asked place tuple.now.plain side.now) result }
+    ensures { Judges (trace_asked place tuple.now.plain (side_of side.now)) result }
 {
     let Some(end) = carried(alloc, tuple, side.trace.items())? else {
         return Err(Stop::Broken {
@@ -92,7 +93,7 @@ pub(crate) fn judge_flows(
     requires flows { length side.now.flows ≡ side.now.end.plain.rank }
     requires low { place ≤ 1000 }
     requires heads { from + side.now.end.plain.rank ≤ length heads.now }
-    ensures { Judges (flows_asked place from heads.now side.now) result }
+    ensures { Judges (flows_asked place from heads.now (side_of side.now)) result }
 {
     let net = graph(&side.end);
     for g in 0..side.end.rank().get() {

@@ -1,7 +1,8 @@
 use Rattle.std.proofs.Common.{◌∙◌, ap, sym}
 use Rattle.std.proofs.lemmas.Bool.{true≢false}
 use Rattle.wh_words.specs.Moves.{cut_move}
-use Rattle.wh_cert.proofs.Staying.{made_cut_level, made_stays}
+use Rattle.wh_graph.proofs.LevelMoves.{made_cut_level}
+use Rattle.wh_cert.proofs.Staying.{made_stays}
 use Rattle.wh_cert.proofs.images.cut_stays.Goals as goal
 
 pub image_is_in-requires-clause-level : goal.image_is_in-requires-clause-level

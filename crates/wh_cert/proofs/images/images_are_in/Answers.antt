@@ -1,5 +1,5 @@
 use Rattle.std.proofs.Common.{arith}
-use Rattle.wh_cert.proofs.SetTables.{tuple_table}
+use Rattle.wh_graph.proofs.SetTables.{tuple_table}
 use Rattle.wh_cert.proofs.Staying.{images_are_in, cuts_from}
 use Rattle.wh_cert.proofs.images.images_are_in.Goals as goal
 

@@ -3,7 +3,8 @@ use Rattle.std.proofs.lemmas.Bool.{false≢true}
 use Rattle.wh_words.specs.Moves.Kind.{invert}
 use Rattle.wh_words.specs.Levels.{IsLevelMove}
 use Rattle.wh_cert.specs.Listings.{StaysIn}
-use Rattle.wh_cert.proofs.Staying.{made_invert_level, made_stays, not_all}
+use Rattle.wh_graph.proofs.LevelMoves.{made_invert_level}
+use Rattle.wh_cert.proofs.Staying.{made_stays, not_all}
 use Rattle.wh_cert.proofs.images.inversions_stay.Goals as goal
 
 pub image_is_in-requires-clause-level : goal.image_is_in-requires-clause-level

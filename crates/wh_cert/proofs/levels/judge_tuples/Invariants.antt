@@ -1,4 +1,5 @@
-use Rattle.wh_cert.specs.Demands.{plains, asked_below, at_asked}
+use Rattle.wh_text.specs.AnswerData.{plains}
+use Rattle.wh_cert.specs.Demands.{asked_below, at_asked}
 use Rattle.wh_cert.specs.Checks.{AreMet}
 use Rattle.wh_cert.specs.Listings.{IsRoomy}
 use Rattle.wh_cert.proofs.levels.judge_tuples.Given as goal

@@ -1,5 +1,5 @@
 use Rattle.std.proofs.Common.{subst}
-use Rattle.wh_cert.specs.Demands.{plains}
+use Rattle.wh_text.specs.AnswerData.{plains}
 use Rattle.wh_cert.specs.Listings.{IsAdded}
 use Rattle.wh_cert.proofs.ListedTuples.{added}
 use Rattle.wh_cert.proofs.listed.Listed.add.Goals as goal

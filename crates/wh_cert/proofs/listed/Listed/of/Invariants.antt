@@ -1,5 +1,5 @@
 use Rattle.std.proofs.Common.{take}
-use Rattle.wh_cert.specs.Demands.{plains}
+use Rattle.wh_text.specs.AnswerData.{plains}
 use Rattle.wh_cert.specs.Listings.{HaveSameTuples}
 use Rattle.wh_cert.proofs.listed.Listed.of.Given as goal
 

@@ -1,6 +1,0 @@
-use Rattle.std.proofs.Common.{◌^◌}
-use Rattle.wh_cert.specs.CapacityTables.{IsTable, set_capacity}
-use Rattle.wh_cert.proofs.capacity_table.capacity_table.Given as goal
-
-abbrev pub invariant-loop-index : goal.invariant-loop-index
-invariant-loop-index l = IsTable (set_capacity l.net.cells) (2 ^ l.index) l.capacities.items

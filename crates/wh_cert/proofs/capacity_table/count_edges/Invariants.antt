@@ -1,6 +1,0 @@
-use Rattle.std.proofs.Common.{◌^◌}
-use Rattle.wh_cert.specs.CapacityTables.{IsTable, edges_into}
-use Rattle.wh_cert.proofs.capacity_table.count_edges.Given as goal
-
-abbrev pub invariant-loop-index : goal.invariant-loop-index
-invariant-loop-index l = IsTable (edges_into l.net.cells l.x) (2 ^ l.index) l.edges.items
