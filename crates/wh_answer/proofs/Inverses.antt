@@ -27,18 +27,25 @@ walk_leads t u [] here = refl
 walk_leads t u (m ∷ ms) (further l r) = walk_leads (act t m) u ms r
 
 -- ---- back along a trace
-step_move : (t : TupleData) (m : Move) → t.rank ≤ 26 → IsCapacityStep t m → IsMove m
+pub step_move : (t : TupleData) (m : Move) → t.rank ≤ 26 → IsCapacityStep t m → IsMove m
 step_move t m low s = subst IsMove (sym s.is) (record { rank = low; kind = s.cut.valid })
 
-step_rank : (t : TupleData) (m : Move) → IsCapacityStep t m → t.rank ≡ m.rank
+pub step_rank : (t : TupleData) (m : Move) → IsCapacityStep t m → t.rank ≡ m.rank
 step_rank t m s = sym (ap (λ (k : Move). k.rank) s.is)
+
+pub step_tuple : (t : TupleData) (m : Move) → IsTuple t → t.rank ≤ 26 → IsCapacityStep t m → IsTuple (act t m)
+step_tuple t m is low s = act_tuple t m is (step_move t m low s) (step_rank t m s) (omega (arith, step_shortens t m is s, is.short))
+
+pub step_back : (t : TupleData) (m : Move) → IsTuple t → t.rank ≤ 26 → IsCapacityStep t m → act (act t m) (inverse_move m) ≡ t
+step_back t m is low s = undone t m is (step_move t m low s)
+
+pub inverse_list-cons : (m : Move) (ms : List Move) → inverse_list (m ∷ ms) ≡ inverse_list ms ++ inverse_move m ∷ []
+inverse_list-cons m ms = ap (map inverse_move) (reverse-append (m ∷ []) ms) ∙ map-append inverse_move (reverse ms) (m ∷ [])
 
 pub trace_back : (t u : TupleData) (ms : List Move) → IsTuple t → t.rank ≤ 26 → IsCapacityTrace t ms u → act_all u (inverse_list ms) ≡ t
 trace_back t u [] is low (done tight) = refl
 trace_back t u (m ∷ ms) is low (step s r) =
-    let move = step_move t m low s in
-    let next : IsTuple (act t m) = act_tuple t m is move (step_rank t m s) (omega (arith, step_shortens t m is s, is.short)) in
-    ap (act_all u) (ap (map inverse_move) (reverse-append (m ∷ []) ms) ∙ map-append inverse_move (reverse ms) (m ∷ []))
+    ap (act_all u) (inverse_list-cons m ms)
     ∙ act_all-append u (inverse_list ms) (inverse_move m ∷ [])
-    ∙ ap (λ v. act v (inverse_move m)) (trace_back (act t m) u ms next low r)
-    ∙ undone t m is move
+    ∙ ap (λ v. act v (inverse_move m)) (trace_back (act t m) u ms (step_tuple t m is low s) low r)
+    ∙ step_back t m is low s

@@ -3,3 +3,11 @@ pub mod Inverses
 pub mod Verdicts
 pub mod OneSide
 pub mod OneAnswer
+pub mod ValidWays
+pub mod ValidSides
+pub mod ValidLevels
+pub mod Valid
+pub mod WalkLengths
+pub mod OwnParts
+pub mod TextLengths
+pub mod Readable

@@ -17,6 +17,7 @@ use Rattle.wh_text.specs.declared.answer.Verdict.{Verdict}
 use Rattle.wh_text.specs.declared.answer.Verdict.TheVariants.{Yes, NoLength, NoLevel, Undecided}
 use Rattle.wh_text.specs.declared.answer.Answer.TheVariants as answers
 use Rattle.wh_text.specs.Problems.ProblemData.{reduce, decide}
+use Rattle.wh_text.specs.AnswerData.{plains}
 use Rattle.wh_text.specs.FieldTexts.{words_text, number_text}
 use Rattle.wh_text.specs.AnswerTexts.{rank_text, side_text, at_text, level_text, verdict_text, answer_text}
 use Rattle.wh_text.specs.Statuses.{verdict_status}
@@ -26,9 +27,6 @@ use Rattle.wh_answer.specs.Laws.{AnswerIsUnique}
 use Rattle.wh_answer.proofs.OneSide.{trace_one, side_one}
 
 -- ---- levels
-abbrev plains : List Tuple → List TupleData
-plains ts = map (λ t. t.plain) ts
-
 abbrev at_texts : List TupleData → List ℕ
 at_texts ts = flat_map (λ t. codes "at" ++ words_text t.words) ts
 
@@ -218,13 +216,13 @@ decide_text s t lines = codes "whitehead 1 decide\n" ++ (rank_text s.rank ++ cod
 
 pub answer_one : AnswerIsUnique
 unfolding answer_text reduce_text decide_text
-answer_one limit (reduce t) (answers.Reduce u a) (answers.Reduce v b) is i j = (ap₂ reduce_text (i.0 ∙ sym j.0) (side_one t a b is.0 is.1 i.1 j.1), refl)
+answer_one limit (reduce t) (answers.Reduce u a) (answers.Reduce v b) is i j = (ap₂ reduce_text (i.0 ∙ sym j.0) (side_one t a b is.0 is.2 i.1 j.1), refl)
 answer_one limit (reduce t) (answers.Reduce u a) (answers.Decide x y v) is i j = absurd j
 answer_one limit (reduce t) (answers.Decide x y v) b is i j = absurd i
 answer_one limit (decide s t) (answers.Reduce u a) b is i j = absurd i
 answer_one limit (decide s t) (answers.Decide x y v) (answers.Reduce u a) is i j = absurd j
 answer_one limit (decide s t) (answers.Decide x y v) (answers.Decide p q r) is i j =
-    let one : told v ≡ told r = verdict_one limit s t v r is.0 (omega (arith, is.3)) is.1 (omega (arith, is.2, is.3)) i.2.0 j.2.0 in (
+    let one : told v ≡ told r = verdict_one limit s t v r is.0 (omega (arith, is.4)) is.1 (omega (arith, is.2, is.4)) i.2.0 j.2.0 in (
       ap₂ (λ a b. decide_text a b (verdict_text v)) (i.0 ∙ sym j.0) (i.1 ∙ sym j.1) ∙ ap (λ (k : Told). decide_text p.plain q.plain k.0) one,
       ap (λ (k : Told). k.1) one,
     )

@@ -1,18 +1,24 @@
 -- What holds of all answers, as statements that contracts name.
-use Rattle.std.specs.Prelude.{◌≡◌, ℕ, ◌≤◌}
+use Rattle.std.specs.Prelude.{◌≡◌, ℕ, ◌≤◌, length}
 use Rattle.wh_words.specs.Tuples.{IsTuple}
 use Rattle.wh_text.specs.declared.answer.Answer.{Answer}
 use Rattle.wh_text.specs.Problems.{ProblemData}
 use Rattle.wh_text.specs.Problems.ProblemData.{reduce, decide}
+use Rattle.wh_text.specs.AnswerData.{answer_of}
 use Rattle.wh_text.specs.AnswerTexts.{answer_text}
 use Rattle.wh_text.specs.Statuses.{answer_status}
 use Rattle.wh_answer.specs.Answers.{Answers}
+use Rattle.wh_answer.specs.Certified.{IsDecided, IsReadable}
 
--- The problem is one of tuples, of the ranks of its command.
+-- What is known of a problem that was read: its tuples are of a rank that its command allows, and two tuples have one rank and equally many words.
 abbrev pub IsProblem : ProblemData → Type 0
-IsProblem (reduce t) = IsTuple t × (t.rank ≤ 26)
-IsProblem (decide s t) = IsTuple s × IsTuple t × (s.rank ≡ t.rank) × (s.rank ≤ 6)
+IsProblem (reduce t) = IsTuple t × (1 ≤ t.rank) × (t.rank ≤ 26)
+IsProblem (decide s t) = IsTuple s × IsTuple t × (s.rank ≡ t.rank) × (1 ≤ s.rank) × (s.rank ≤ 6) × (length s.words ≡ length t.words)
 
 -- A problem has one text and one status that answer it.
 abbrev pub AnswerIsUnique : Type 0
 AnswerIsUnique = (limit : ℕ) (p : ProblemData) (a b : Answer) → IsProblem p → Answers limit p a → Answers limit p b → (answer_text a ≡ answer_text b) × (answer_status a ≡ answer_status b)
+
+-- What is answered to a problem that was read is a certificate whose text isn't too long, unless it is undecided.
+abbrev pub AnswersAreReadable : Type 0
+AnswersAreReadable = (limit : ℕ) (p : ProblemData) (a : Answer) → limit ≤ 131072 → IsProblem p → Answers limit p a → IsDecided (answer_of a) → IsReadable a

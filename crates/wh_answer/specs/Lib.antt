@@ -1,3 +1,4 @@
 pub mod Answers
 pub mod Traced
+pub mod Certified
 pub mod Laws

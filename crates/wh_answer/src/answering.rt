@@ -2,7 +2,9 @@
 ghost use Rattle.std.specs.Prelude.{IfOk};
 ghost use Rattle.wh_text.specs.Problems.{problem_of};
 ghost use Rattle.wh_text.specs.AnswerTexts.{IsPrintable};
+ghost use Rattle.wh_text.specs.AnswerData.{answer_of};
 ghost use Rattle.wh_answer.specs.Answers.{Answers, IsAnswerable};
+ghost use Rattle.wh_answer.specs.Certified.{IsDecided, IsValid};
 
 use crate::deciding::decide;
 use crate::side::side_of;
@@ -18,14 +20,18 @@ use wh_words::OutOfMemory;
 /// ends of their traces: a no where their lengths differ; a yes where they are one tuple; undecided where they have more
 /// than 256 letters; undecided where the level of the first end has more tuples than the limit; a yes where the second end
 /// is in this level; and a no with the whole level where it isn't. The moves of a yes carry the first tuple onto the second
-/// (Lyndon and Schupp, I.4).
+/// (Lyndon and Schupp, I.4). An answer that isn't undecided is a valid certificate: its lines keep all the rules that
+/// `wh_cert` judges by.
 pub fn answer(alloc: Global, problem: &Problem, limit: u32) -> Result<Answer, OutOfMemory>
     requires { IsAnswerable (problem_of problem.now) }
     ensures answers { IfOk result (Answers limit (problem_of problem.now)) }
     ensures printable { IfOk result IsPrintable }
+    ensures valid { IfOk result (λ a. IsDecided (answer_of a) → IsValid (answer_of a)) }
 {
     match problem {
         Problem::Reduce { tuple } => {
+            // The proof takes from these calls that it is a tuple, and of which ranks.
+            tuple.rank().get();
             let trace = reduce(alloc, tuple)?;
             Ok(Answer::Reduce {
                 tuple: tuple.copy(alloc)?,
@@ -33,6 +39,9 @@ pub fn answer(alloc: Global, problem: &Problem, limit: u32) -> Result<Answer, Ou
             })
         }
         Problem::Decide { first, second } => {
+            // The proof takes from these calls that both are tuples.
+            first.rank().get();
+            second.rank();
             let verdict = decide(alloc, first, second, limit)?;
             Ok(Answer::Decide {
                 first: first.copy(alloc)?,

@@ -1,7 +1,12 @@
 //! Laws of answers. Each is the contract of a function that does nothing.
-ghost use Rattle.wh_answer.specs.Laws.{AnswerIsUnique};
+ghost use Rattle.wh_answer.specs.Laws.{AnswerIsUnique, AnswersAreReadable};
 
 /// A problem and a limit have one text and one status that answer it.
 pub fn unique_answers()
     ensures { AnswerIsUnique }
+{}
+
+/// What is answered to a problem that was read is a certificate whose text isn't too long, unless it is undecided.
+pub fn readable_answers()
+    ensures { AnswersAreReadable }
 {}

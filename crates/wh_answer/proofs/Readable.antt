@@ -1,0 +1,183 @@
+-- What is answered to a problem that was read is a certificate whose text isn't too long, unless it is undecided.
+use Rattle.std.proofs.Common.{◌≡◌, ℕ, ◌≤◌, List, [], ◌++◌, length, get_or, reverse, refl, sym, ◌∙◌, subst, arith, length-append}
+use Rattle.std.specs.Prelude.{codes}
+use Rattle.std.specs.List.{All}
+use Rattle.std.proofs.lemmas.List.{length-map, length-reverse}
+use Rattle.std.proofs.lemmas.List.Elements.{All-nil, All-append, All-weaker, Contains-get_or}
+use Rattle.wh_words.specs.Tuples.{TupleData, Tuple, tuple_length}
+use Rattle.wh_words.specs.Moves.{Move, inverse_move}
+use Rattle.wh_words.specs.MoveLists.{inverse_list}
+use Rattle.wh_words.specs.CapacityTraces.{IsCapacityTrace}
+use Rattle.wh_words.specs.Levels.{InLevel, IsLevel}
+use Rattle.wh_words.specs.Levels.Reaches.{here}
+use Rattle.wh_level.proofs.Walks.{reached_length}
+use Rattle.wh_text.specs.declared.answer.Side.{Side}
+use Rattle.wh_text.specs.declared.answer.Verdict.{Verdict}
+use Rattle.wh_text.specs.declared.answer.Verdict.TheVariants.{Yes}
+use Rattle.wh_text.specs.declared.answer.Answer.TheVariants as answers
+use Rattle.wh_text.specs.Problems.ProblemData.{reduce, decide}
+use Rattle.wh_text.specs.FieldTexts.{words_text}
+use Rattle.wh_text.specs.AnswerTexts.{rank_text, side_text, level_text, reduced_text, decided_text, verdict_text, answer_text}
+use Rattle.wh_text.specs.AnswerData.{plains, side_of, verdict_of, answer_of}
+use Rattle.wh_text.specs.AnswerData.AnswerData.{decide as decided}
+use Rattle.wh_text.specs.ReadingBack.{IsMoveOf, IsTupleOf, IsFlowOf, IsVerdictOf}
+use Rattle.wh_text.specs.ReadingBack.{IsSideOf as IsSideOfRank}
+use Rattle.wh_answer.specs.Answers.{IsSideOf, Decides}
+use Rattle.wh_answer.specs.Answers.Decides.{other_lengths, one_end, too_long, too_many, joined, off_level}
+use Rattle.wh_answer.specs.Certified.{IsDecided, IsReadable}
+use Rattle.wh_answer.specs.Laws.{IsProblem, AnswersAreReadable}
+use Rattle.wh_answer.proofs.OwnParts.{trace_moves, walk_moves, inverse_moves, trace_end, trace_length, reached_of, flow_of_generator}
+use Rattle.wh_answer.proofs.WalkLengths.{first_walk-length}
+use Rattle.wh_answer.proofs.TextLengths.{IsShort, words_text-length, number_text-length, moves_text-length, side_text-length, level_text-length}
+
+-- ---- sides
+module _ (n count : ℕ) (low : n ≤ 26) (t : TupleData) (is : IsTupleOf n count t) where
+  own_side : (s : Side) → IsSideOf t s → IsSideOfRank n count (side_of s)
+  own_side s own = record {
+    trace = trace_moves n t s.end.plain s.trace is.rank low own.trace;
+    end = end;
+    flows = own.flows.count ∙ end.rank;
+    each = λ g l. subst (λ k. IsFlowOf k g (get_or s.flows g [])) end.rank (flow_of_generator s.end.plain s.flows g end.tuple own.flows (omega (arith, l, end.rank)));
+  }
+    where
+      end : IsTupleOf n count s.end.plain
+      end = trace_end n count t s.end.plain s.trace is low own.trace
+
+  few_moves : (u : TupleData) (ms : List Move) → IsCapacityTrace t ms u → length ms ≤ 4096
+  few_moves u ms r = omega (arith, trace_length n count t u ms is low r, is.tuple.short)
+
+  side_short : (s : Side) → IsSideOf t s → length (side_text s) ≤ 1250000
+  side_short s own = side_text-length n count s low (own_side s own) (few_moves s.end.plain s.trace own.trace)
+
+-- ---- levels
+module _ (n count : ℕ) (u : TupleData) (is : IsTupleOf n count u) (small : tuple_length u ≤ 256) where
+  level_tuples : (ts : List TupleData) → IsLevel u ts → All (λ t. IsTupleOf n count t × IsShort t) ts
+  level_tuples ts level k d l =
+      let t : TupleData = get_or ts k d in
+      let (ms, r) : InLevel u t = (level.exact t).0 (Contains-get_or ts k d l) in
+      let of : IsTupleOf n count t = reached_of n count u t ms is r in
+      (of, (omega (arith, reached_length r, small), of.tuple.few))
+
+  level_some : (ts : List TupleData) → IsLevel u ts → 1 ≤ length ts
+  level_some ts level = let c = (level.exact u).1 ([], here) in omega (arith, c.1)
+
+-- ---- verdicts
+-- The verdict is one in rank n on tuples with so many words, and its text leaves room for the other lines of the answer.
+record IsReadableVerdict (n count : ℕ) (v : Verdict) : Type 0 where
+  parts : IsVerdictOf n count (verdict_of v)
+  short : length (verdict_text v) ≤ 60000000
+
+module _ (n count : ℕ) (low : n ≤ 26) (s t : TupleData) (is : IsTupleOf n count s) (js : IsTupleOf n count t) where
+  -- The moves of a trace, then moves between the ends, and then the inverse of a trace.
+  yes_readable : (u w : TupleData) (ms between ns : List Move) → IsCapacityTrace s ms u → IsCapacityTrace t ns w → All (IsMoveOf n) between → length between ≤ 131072 → IsReadableVerdict n count (Yes (ms ++ (between ++ inverse_list ns)))
+  unfolding verdict_text
+  yes_readable u w ms between ns r q are few =
+      let all : All (IsMoveOf n) (ms ++ (between ++ inverse_list ns)) =
+      All-append (IsMoveOf n) ms (between ++ inverse_list ns) (trace_moves n s u ms is.rank low r)
+      (All-append (IsMoveOf n) between (inverse_list ns) are (inverse_moves n ns (trace_moves n t w ns js.rank low q))) in
+      record {
+        parts = all;
+        short = omega (
+          arith,
+          moves_text-length n (ms ++ (between ++ inverse_list ns)) all,
+          length-append ms (between ++ inverse_list ns),
+          length-append between (inverse_list ns),
+          length-map (reverse ns) inverse_move,
+          length-reverse ns,
+          few_moves n count low s is u ms r,
+          few_moves n count low t js w ns q,
+          few,
+        );
+      }
+
+  verdict_readable : (limit : ℕ) (v : Verdict) → limit ≤ 131072 → Decides limit s t v → IsDecided (decided s t (verdict_of v)) → IsReadableVerdict n count v
+  unfolding verdict_text
+  verdict_readable limit v h (other_lengths {first = a} {second = b} i j differ) x = record {
+    parts = (own_side n count low s is a i, own_side n count low t js b j);
+    short = omega (arith, length-append (side_text a) (side_text b), side_short n count low s is a i, side_short n count low t js b j);
+  }
+  verdict_readable limit v h (one_end {ms = ms} {ns = ns} {u = u} r q) x = yes_readable u u ms [] ns r q (All-nil (IsMoveOf n)) (omega arith)
+  verdict_readable limit v h (too_long apart long) x = absurd x
+  verdict_readable limit v h (too_many apart small more) x = absurd x
+  verdict_readable limit v h (joined {ms = ms} {ns = ns} {walk = walk} {u = u} {v = w} {ts = ts} apart small level few first) x =
+      yes_readable u w ms walk ns apart.first apart.second (walk_moves n u w walk (trace_end n count s u ms is low apart.first).rank first.leads)
+      (omega (arith, first_walk-length u w ts walk level first, few, h))
+  verdict_readable limit v h (off_level {first = a} {second = b} {level = ts} i j apart small level few off) x =
+      let end : IsTupleOf n count a.end.plain = trace_end n count s a.end.plain a.trace is low i.trace in
+      let tuples : All (λ t. IsTupleOf n count t × IsShort t) (plains ts) = level_tuples n count a.end.plain end small (plains ts) level in
+      let count_of : length (plains ts) ≡ length ts = length-map ts (λ (t : Tuple). t.plain) in
+      record {
+        parts = (
+          own_side n count low s is a i,
+          own_side n count low t js b j,
+          All-weaker (λ t. IsTupleOf n count t × IsShort t) (IsTupleOf n count) (λ t both. both.0) (plains ts) tuples,
+          level_some n count a.end.plain end small (plains ts) level,
+          omega (arith, count_of, few, h),
+        );
+        short = omega (
+          arith,
+          length-append (side_text a ++ side_text b) (level_text ts),
+          length-append (side_text a) (side_text b),
+          side_short n count low s is a i,
+          side_short n count low t js b j,
+          level_text-length ts (All-weaker (λ t. IsTupleOf n count t × IsShort t) IsShort (λ t both. both.1) (plains ts) tuples) (omega (arith, few, h)),
+        );
+      }
+
+-- ---- answers
+reduce_readable : (t : Tuple) (s : Side) → IsProblem (reduce t.plain) → IsSideOf t.plain s → IsReadable (answers.Reduce t s)
+unfolding answer_text
+reduce_readable t s (is, least, low) own =
+    let of : IsTupleOf t.plain.rank (length t.plain.words) t.plain = record { tuple = is; rank = refl; size = refl } in
+    record {
+      certificate = (is, least, low, own_side t.plain.rank (length t.plain.words) low t.plain of s own);
+      short = omega (
+        arith,
+        length-append (reduced_text t s) (codes "done\n"),
+        length-append (rank_text t.plain.rank ++ codes "tuple" ++ words_text t.plain.words) (side_text s),
+        length-append (rank_text t.plain.rank ++ codes "tuple") (words_text t.plain.words),
+        length-append (rank_text t.plain.rank) (codes "tuple"),
+        number_text-length 2 t.plain.rank (omega arith) (omega (arith, low)) (omega (arith, low)),
+        words_text-length t.plain,
+        is.few,
+        is.short,
+        side_short t.plain.rank (length t.plain.words) low t.plain of s own,
+      );
+    }
+
+decide_readable : (limit : ℕ) (s t : Tuple) (v : Verdict) → limit ≤ 131072 → IsProblem (decide s.plain t.plain) → Decides limit s.plain t.plain v → IsDecided (answer_of (answers.Decide s t v)) → IsReadable (answers.Decide s t v)
+unfolding answer_text
+decide_readable limit s t v h (is, js, ranks, least, low, counts) d x =
+    let of : IsTupleOf s.plain.rank (length s.plain.words) s.plain = record { tuple = is; rank = refl; size = refl } in
+    let other : IsTupleOf s.plain.rank (length s.plain.words) t.plain = record { tuple = js; rank = sym ranks; size = sym counts } in
+    let verdict : IsReadableVerdict s.plain.rank (length s.plain.words) v = verdict_readable s.plain.rank (length s.plain.words) (omega (arith, low)) s.plain t.plain of other limit v h d x in
+    record {
+      certificate = (is, least, low, other, verdict.parts);
+      short = omega (
+        arith,
+        length-append (decided_text s t v) (codes "done\n"),
+        length-append (rank_text s.plain.rank ++ codes "first" ++ words_text s.plain.words ++ codes "second" ++ words_text t.plain.words ++ codes "verdict") (verdict_text v),
+        length-append (rank_text s.plain.rank ++ codes "first" ++ words_text s.plain.words ++ codes "second" ++ words_text t.plain.words) (codes "verdict"),
+        length-append (rank_text s.plain.rank ++ codes "first" ++ words_text s.plain.words ++ codes "second") (words_text t.plain.words),
+        length-append (rank_text s.plain.rank ++ codes "first" ++ words_text s.plain.words) (codes "second"),
+        length-append (rank_text s.plain.rank ++ codes "first") (words_text s.plain.words),
+        length-append (rank_text s.plain.rank) (codes "first"),
+        number_text-length 2 s.plain.rank (omega arith) (omega (arith, low)) (omega (arith, low)),
+        words_text-length s.plain,
+        words_text-length t.plain,
+        is.few,
+        is.short,
+        js.few,
+        js.short,
+        verdict.short,
+      );
+    }
+
+pub answers_readable : AnswersAreReadable
+answers_readable limit (reduce t) (answers.Reduce u s) h is own x = reduce_readable u s (subst (λ d. IsProblem (reduce d)) (sym own.0) is) (subst (λ d. IsSideOf d s) (sym own.0) own.1)
+answers_readable limit (reduce t) (answers.Decide a b v) h is own x = absurd own
+answers_readable limit (decide s t) (answers.Reduce u c) h is own x = absurd own
+answers_readable limit (decide s t) (answers.Decide a b v) h is own x =
+    decide_readable limit a b v h
+    (subst (λ d. IsProblem (decide d b.plain)) (sym own.0) (subst (λ d. IsProblem (decide s d)) (sym own.1) is))
+    (subst (λ d. Decides limit d b.plain v) (sym own.0) (subst (λ d. Decides limit s d v) (sym own.1) own.2.0)) x
