@@ -1,11 +1,11 @@
 //! The words of the command line.
 use std::test::Fail;
 use wh_text::Command;
-use whitehead::{Arguments, WordsError, read_arguments};
+use whitehead::{Arguments, Task, WordsError, read_arguments};
 
 fn asked(limit: u32, workers: u32) -> Result<Arguments, WordsError> {
     Ok(Arguments {
-        command: Command::Reduce,
+        task: Task::Answer(Command::Reduce),
         limit,
         workers,
     })

@@ -4,3 +4,5 @@ pub mod Pieces
 pub mod Telling
 pub mod ReadProblems
 pub mod OneText
+pub mod Refusing
+pub mod Checking

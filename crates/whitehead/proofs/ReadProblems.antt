@@ -50,13 +50,13 @@ of_command command bytes p e =
 
 -- ---- what is read
 pub read_problem : (command : Command) (bytes : List ℕ) (p : ProblemData) → problem command bytes ≡ Ok p → IsProblem p × IsAnswerable p
-read_problem commands.Reduce bytes (reduce t) e = let r = ((reads_reduce_texts bytes t).0 e).1 in ((line_tuple t.rank r.tuple_line t r.tuple, r.greatest), tt)
+read_problem commands.Reduce bytes (reduce t) e = let r = ((reads_reduce_texts bytes t).0 e).1 in ((line_tuple t.rank r.tuple_line t r.tuple, r.least, r.greatest), tt)
 read_problem commands.Reduce bytes (decide s t) e = absurd (of_command commands.Reduce bytes (decide s t) e)
 read_problem commands.Decide bytes (reduce t) e = absurd (of_command commands.Decide bytes (reduce t) e)
 read_problem commands.Decide bytes (decide s t) e =
     let r = ((reads_decide_texts bytes s t).0 e).1 in
     let ranks : s.rank ≡ t.rank = sym (line_rank s.rank r.second_line t r.second) in
-    ((line_tuple s.rank r.first_line s r.first, line_tuple s.rank r.second_line t r.second, ranks, r.greatest), (ranks, r.greatest, r.equal))
+    ((line_tuple s.rank r.first_line s r.first, line_tuple s.rank r.second_line t r.second, ranks, r.least, r.greatest, r.equal), (ranks, r.greatest, r.equal))
 
 pub answerable : (command : Command) (bytes : List ℕ) (p : ProblemData) → problem command bytes ≡ Ok p → IsAnswerable p
 answerable command bytes p e = (read_problem command bytes p e).1

@@ -1,24 +1,26 @@
 -- What the words of the command line ask.
 use Rattle.std.specs.Prelude.{◌≡◌, ℕ, leb, ◌&&◌, cond, List, [], ◌∷◌, Option, Some, None, Result, Ok, Err, codes}
 use Rattle.clap.specs.Words.{Row, Text, Kinds, first_of, fault_of, matches_of}
-use Rattle.wh_text.specs.declared.command.Command.{Command}
 use Rattle.wh_text.specs.declared.command.Command.TheVariants as commands
 use Rattle.wh_text.specs.Numbers.{number}
 use Rattle.wh_text.specs.Spellings.{are}
 use Rattle.whitehead.specs.CommandLine.{program}
+use Rattle.whitehead.specs.declared.arguments.Task.{Task}
+use Rattle.whitehead.specs.declared.arguments.Task.TheVariants as tasks
 use Rattle.whitehead.specs.declared.arguments.Arguments.{Arguments}
 use Rattle.whitehead.specs.declared.arguments.WordsError.{WordsError}
 use Rattle.whitehead.specs.declared.arguments.WordsError.TheVariants as errors
 
--- The command of a name.
-abbrev pub command_of : Text → Option Command
-command_of t =
-    cond (are t (codes "reduce")) (Some commands.Reduce)
-    (cond (are t (codes "decide")) (Some commands.Decide) None)
+-- The task of a name.
+abbrev pub task_of : Text → Option Task
+task_of t =
+    cond (are t (codes "reduce")) (Some (tasks.Answer commands.Reduce))
+    (cond (are t (codes "decide")) (Some (tasks.Answer commands.Decide))
+    (cond (are t (codes "check")) (Some tasks.Check) None))
 
-abbrev pub command_in : Option Text → Option Command
-command_in None = None
-command_in (Some t) = command_of t
+abbrev pub task_in : Option Text → Option Task
+task_in None = None
+task_in (Some t) = task_of t
 
 abbrev pub in_range : ℕ → ℕ → Option ℕ → Option ℕ
 in_range least most None = None
@@ -29,15 +31,15 @@ abbrev pub option_in : ℕ → ℕ → ℕ → Option Text → Option ℕ
 option_in least most standing None = Some standing
 option_in least most standing (Some t) = in_range least most (number t)
 
-abbrev pub together : Option Command → Option ℕ → Option ℕ → Option Arguments
+abbrev pub together : Option Task → Option ℕ → Option ℕ → Option Arguments
 together None limit workers = None
-together (Some command) None workers = None
-together (Some command) (Some limit) None = None
-together (Some command) (Some limit) (Some workers) = Some (record { command = command; limit = limit; workers = workers })
+together (Some task) None workers = None
+together (Some task) (Some limit) None = None
+together (Some task) (Some limit) (Some workers) = Some (record { task = task; limit = limit; workers = workers })
 
 -- What the three texts ask. The limit is from 1 to 131,072 and stands at 10,000; there are 1 to 64 workers, and 1 where nothing is said.
 abbrev pub asked_by : Option Text → Option Text → Option Text → Option Arguments
-asked_by name limit workers = together (command_in name) (option_in 1 131072 10000 limit) (option_in 1 64 1 workers)
+asked_by name limit workers = together (task_in name) (option_in 1 131072 10000 limit) (option_in 1 64 1 workers)
 
 abbrev pub asked_unless : Kinds → List Row → Option Arguments
 asked_unless [] rows = asked_by (first_of (codes "COMMAND") rows) (first_of (codes "limit") rows) (first_of (codes "workers") rows)

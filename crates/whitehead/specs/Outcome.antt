@@ -7,23 +7,35 @@ use Rattle.wh_text.specs.declared.status.Status.{Status}
 use Rattle.wh_text.specs.declared.status.Status.TheVariants.{Done, No, Refused, Undecided, ReadFault, WriteFault, OutOfMemory}
 use Rattle.wh_text.specs.Problems.{most_bytes}
 use Rattle.wh_text.specs.RefusalTexts.{refused_words_text}
+use Rattle.wh_text.specs.Certificates.{most_certificate_bytes}
+use Rattle.whitehead.specs.declared.arguments.Task.{Task}
+use Rattle.whitehead.specs.declared.arguments.Task.TheVariants.{Answer, Check}
 use Rattle.whitehead.specs.declared.arguments.Arguments.{Arguments}
 use Rattle.whitehead.specs.Asked.{asked}
 use Rattle.whitehead.specs.Replies.{Replies}
 use Rattle.whitehead.specs.Streams.{IsWholeUpTo, IsPartWritten}
 
+-- How many bytes the input of a task may have.
+abbrev pub most_input : Task → ℕ
+most_input (Answer command) = most_bytes
+most_input Check = most_certificate_bytes
+
 -- What is told for these words and these bytes: a status and a text. Where the words ask nothing, they are refused, and no byte counts.
 pub data Told (words : List Text) (bytes : List ℕ) : Status → List ℕ → Type 0 where
   words_refused : asked words ≡ None → Told words bytes Refused refused_words_text
-  replied : {a : Arguments} {status : Status} {text : List ℕ} → asked words ≡ Some a → Replies a.command a.limit bytes status text → Told words bytes status text
+  replied : {a : Arguments} {status : Status} {text : List ℕ} → asked words ≡ Some a → Replies a.limit bytes a.task status text → Told words bytes status text
+
+-- The bytes that are read: none where the words are refused, and else all, or one more than the task allows.
+abbrev pub IsInput : List Text → List ℕ → Option (List ℕ) → Type 0
+IsInput words bytes left = ((asked words ≡ None) × (bytes ≡ [])) ⊎ ((a : Arguments) × (asked words ≡ Some a) × IsWholeUpTo (most_input a.task) bytes left)
 
 module _ (words : List Text) (left left' held held' : Option (List ℕ)) where
-  -- A whole text is told, for the bytes that were read: none where the words are refused, and else all, or one more than the limit.
+  -- A whole text is told, for the bytes that were read.
   pub record HasTold (status : Status) : Type 0 where
     pub bytes : List ℕ
     pub text : List ℕ
     pub read : Consumed left left' bytes
-    pub whole : ((asked words ≡ None) × (bytes ≡ [])) ⊎ IsWholeUpTo most_bytes bytes left'
+    pub whole : IsInput words bytes left'
     pub written : Appended held held' text
     pub told : Told words bytes status text
 
@@ -33,7 +45,7 @@ module _ (words : List Text) (left left' held held' : Option (List ℕ)) where
     pub text : List ℕ
     pub status : Status
     pub read : Consumed left left' bytes
-    pub whole : ((asked words ≡ None) × (bytes ≡ [])) ⊎ IsWholeUpTo most_bytes bytes left'
+    pub whole : IsInput words bytes left'
     pub written : IsPartWritten held held' text
     pub told : Told words bytes status text
 

@@ -3,15 +3,24 @@ use Rattle.std.specs.Prelude.{◌≡◌, ℕ, List, Ok, Err}
 use Rattle.wh_text.specs.declared.command.Command.{Command}
 use Rattle.wh_text.specs.declared.status.Status.{Status}
 use Rattle.wh_text.specs.declared.status.Status.TheVariants.{Refused}
-use Rattle.wh_text.specs.declared.answer.Answer.{Answer}
+use Rattle.wh_text.specs.declared.answer.Answer as answers
 use Rattle.wh_text.specs.declared.read_error.ReadError.{ReadError}
 use Rattle.wh_text.specs.Problems.{ProblemData, problem}
 use Rattle.wh_text.specs.AnswerTexts.{answer_text}
 use Rattle.wh_text.specs.Statuses.{answer_status}
 use Rattle.wh_text.specs.RefusalTexts.{refusal_text}
+use Rattle.wh_text.specs.AnswerData.{CertificateData}
+use Rattle.wh_text.specs.Certificates.{certificate}
+use Rattle.wh_cert.specs.declared.checked.Checked.{Checked}
+use Rattle.wh_cert.specs.Checks.{Checks}
 use Rattle.wh_answer.specs.Answers.{Answers}
+use Rattle.whitehead.specs.declared.arguments.Task.{Task}
+use Rattle.whitehead.specs.declared.arguments.Task.TheVariants.{Answer, Check}
+use Rattle.whitehead.specs.CheckedTexts.{checked_status, checked_text}
 
--- The reply to these bytes for a command, where levels may have at most so many tuples: the first refusal of the text, or else the text and the status of the answer.
-pub data Replies (command : Command) (limit : ℕ) (bytes : List ℕ) : Status → List ℕ → Type 0 where
-  refused : {e : ReadError} → problem command bytes ≡ Err e → Replies command limit bytes Refused (refusal_text e)
-  answered : {p : ProblemData} (answer : Answer) → problem command bytes ≡ Ok p → Answers limit p answer → Replies command limit bytes (answer_status answer) (answer_text answer)
+-- The reply to these bytes for a task, where levels may have at most so many tuples. To a problem: the first refusal of the text, or else the text and the status of the answer. To a certificate: the first refusal of the text, or else what is found of it.
+pub data Replies (limit : ℕ) (bytes : List ℕ) : Task → Status → List ℕ → Type 0 where
+  refused : {command : Command} {e : ReadError} → problem command bytes ≡ Err e → Replies limit bytes (Answer command) Refused (refusal_text e)
+  answered : {command : Command} {p : ProblemData} (answer : answers.Answer) → problem command bytes ≡ Ok p → Answers limit p answer → Replies limit bytes (Answer command) (answer_status answer) (answer_text answer)
+  unread : {e : ReadError} → certificate bytes ≡ Err e → Replies limit bytes Check Refused (refusal_text e)
+  checked : {c : CertificateData} (found : Checked) → certificate bytes ≡ Ok c → Checks c found → Replies limit bytes Check (checked_status found) (checked_text found)

@@ -1,6 +1,6 @@
 //! What the words of the command line ask.
 ghost use Rattle.std.specs.Prelude.{◌≡◌, map, option_map};
-ghost use Rattle.whitehead.specs.Asked.{Tells, asked, asked_by, command_in};
+ghost use Rattle.whitehead.specs.Asked.{Tells, asked, asked_by, task_in};
 ghost use Rattle.whitehead.specs.Asked as spec;
 
 use crate::parsing::parsed_words;
@@ -9,10 +9,19 @@ use std::alloc::Global;
 use thiserror::Error;
 use wh_text::{Command, canonical_number};
 
-/// What is asked: a command, the greatest number of tuples of a level, and the number of workers.
+/// What is to be done.
+#[derive(Clone, Copy, Debug, PartialEq, Eq)]
+pub enum Task {
+    /// To answer a problem of a command.
+    Answer(Command),
+    /// To check an answer.
+    Check,
+}
+
+/// What is asked: a task, the greatest number of tuples of a level, and the number of workers.
 #[derive(Clone, Copy, Debug, PartialEq, Eq)]
 pub struct Arguments {
-    pub command: Command,
+    pub task: Task,
     pub limit: u32,
     pub workers: u32,
 }
@@ -28,13 +37,14 @@ pub enum WordsError {
     OutOfMemory,
 }
 
-/// The command of a name, where it is given.
-fn command(name: Option<&str>) -> Option<Command>
-    ensures { result ≡ command_in (option_map (λ t. t.now) name.entry) }
+/// The task of a name, where it is given.
+fn named_task(name: Option<&str>) -> Option<Task>
+    ensures { result ≡ task_in (option_map (λ t. t.now) name.entry) }
 {
     match name? {
-        "reduce" => Some(Command::Reduce),
-        "decide" => Some(Command::Decide),
+        "reduce" => Some(Task::Answer(Command::Reduce)),
+        "decide" => Some(Task::Answer(Command::Decide)),
+        "check" => Some(Task::Check),
         _ => None,
     }
 }
@@ -63,18 +73,18 @@ fn option_in(least: u32, most: u32, standing: u32, text: Option<&str>) -> Option
 fn arguments_of(name: Option<&str>, limit: Option<&str>, workers: Option<&str>) -> Option<Arguments>
     ensures { result ≡ asked_by (option_map (λ t. t.now) name.entry) (option_map (λ t. t.now) limit.entry) (option_map (λ t. t.now) workers.entry) }
 {
-    let command = command(name)?;
+    let task = named_task(name)?;
     let limit = option_in(1, 131072, 10000, limit)?;
     let workers = option_in(1, 64, 1, workers)?;
     Some(Arguments {
-        command,
+        task,
         limit,
         workers,
     })
 }
 
-/// What the words after the program's name ask: COMMAND, which is `reduce` or `decide`, and the options `--limit N` with N from 1 to
-/// 131,072, which stands at 10,000, and `--workers N` with N from 1 to 64, which stands at 1. `Refused` comes exactly
+/// What the words after the program's name ask: COMMAND, which is `reduce`, `decide` or `check`, and the options `--limit N` with
+/// N from 1 to 131,072, which stands at 10,000, and `--workers N` with N from 1 to 64, which stands at 1. `Refused` comes exactly
 /// where the parser refuses the words, the command is another word, or an option's text is no canonical number of its
 /// range.
 #[tactic(auto, using(crate::proofs::Parsed::refused, crate::proofs::Parsed::asked_is))]

@@ -1,8 +1,13 @@
 //! Laws of runs. Each is the contract of a function that does nothing.
-ghost use Rattle.whitehead.specs.Laws.{ToldIsUnique};
+ghost use Rattle.whitehead.specs.Laws.{ToldIsUnique, AnswersAreValid};
 
 /// Words and bytes determine the status and the text that are told, byte for byte: two runs that aren't stopped by a fault
 /// or want of memory write the same.
 pub fn told()
     ensures { ToldIsUnique }
+{}
+
+/// What a run writes for a problem that it decides or reduces is told `valid`, when another run checks it.
+pub fn answers()
+    ensures { AnswersAreValid }
 {}

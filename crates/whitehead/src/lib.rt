@@ -2,13 +2,14 @@
 #![tactic(auto)]
 
 mod arguments;
+mod checked_text;
 pub mod laws;
 mod parsing;
 mod program;
 mod reply;
 mod streams;
 
-pub use arguments::{Arguments, WordsError, read_arguments};
+pub use arguments::{Arguments, Task, WordsError, read_arguments};
 pub use program::run;
 pub use reply::{Reply, reply_to};
 pub use streams::{InputError, read_all, write_all};

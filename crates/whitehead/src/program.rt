@@ -3,9 +3,10 @@ ghost use Rattle.std.specs.Prelude.{◌≡◌, None, map};
 ghost use Rattle.wh_io.specs.Device.{Rose};
 ghost use Rattle.whitehead.specs.Asked.{asked};
 ghost use Rattle.whitehead.specs.Endings.{Finished};
+ghost use Rattle.whitehead.specs.Outcome as spec;
 ghost use Rattle.whitehead.specs.Outcome.{RanTo};
 
-use crate::arguments::{WordsError, read_arguments};
+use crate::arguments::{Task, WordsError, read_arguments};
 use crate::reply::reply_to;
 use crate::streams::{InputError, read_all, write_all};
 use std::alloc::Global;
@@ -13,8 +14,15 @@ use wh_io::{Sink, Source};
 use wh_text::{Status, refused_words};
 use wh_words::OutOfMemory;
 
-/// How many bytes an input may have.
-const MOST_BYTES: usize = 1048576;
+/// How many bytes the input of a task may have.
+fn most_input(task: Task) -> usize
+    ensures { result ≡ spec.most_input task }
+{
+    match task {
+        Task::Answer(_) => 1048576,
+        Task::Check => 67108864,
+    }
+}
 
 /// Writes a text, and answers the status, or the fault of writing.
 fn finish<K: Sink>(sink: &mut K, text: &[u8], status: Status) -> Status
@@ -31,7 +39,7 @@ fn finish<K: Sink>(sink: &mut K, text: &[u8], status: Status) -> Status
 ///
 /// Where the source tells its bytes and the sink what it holds, the clause `ran` says for `Done`, `No`, `Refused` and
 /// `Undecided` that the sink grew by exactly the text that these words and these bytes are told, and that the source was
-/// read to its end or to one byte past 1,048,576. For `WriteFault` it grew by a front of such a text, and for `ReadFault`
+/// read to its end or to one byte past 1,048,576, or past 67,108,864 for `check`. For `WriteFault` it grew by a front of such a text, and for `ReadFault`
 /// and `OutOfMemory` by nothing. Where the words are refused nothing is read.
 pub fn run<S: Source, K: Sink>(
     alloc: Global,
@@ -49,12 +57,12 @@ pub fn run<S: Source, K: Sink>(
         Err(WordsError::Refused) => return finish(sink, refused_words(), Status::Refused),
         Err(WordsError::OutOfMemory) => return Status::OutOfMemory,
     };
-    let bytes = match read_all(alloc, source, MOST_BYTES) {
+    let bytes = match read_all(alloc, source, most_input(arguments.task)) {
         Ok(bytes) => bytes,
         Err(InputError::Fault) => return Status::ReadFault,
         Err(InputError::OutOfMemory) => return Status::OutOfMemory,
     };
-    match reply_to(alloc, arguments.command, arguments.limit, &bytes) {
+    match reply_to(alloc, arguments.task, arguments.limit, &bytes) {
         Ok(reply) => finish(sink, reply.text.items(), reply.status),
         Err(OutOfMemory) => Status::OutOfMemory,
     }

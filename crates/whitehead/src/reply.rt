@@ -1,10 +1,17 @@
 //! The reply to the bytes of an input.
-ghost use Rattle.std.specs.Prelude.{IfOk};
+ghost use Rattle.std.specs.Prelude.{◌≡◌, ◌≢◌, IfOk};
+ghost use Rattle.wh_text.specs.declared.status.Status.TheVariants.{Refused};
+ghost use Rattle.wh_text.specs.declared.read_error.ReadError.TheVariants as errors;
+ghost use Rattle.wh_text.specs.RefusalTexts.{refusal_text};
+ghost use Rattle.whitehead.specs.declared.arguments.Task.TheVariants as tasks;
 ghost use Rattle.whitehead.specs.Replies.{Replies};
 
+use crate::arguments::Task;
+use crate::checked_text::{print_checked, status_of};
 use std::alloc::Global;
 use wh_answer::answer;
-use wh_text::{Command, ReadError, Status, print_answer, print_refusal, read_problem};
+use wh_cert::check;
+use wh_text::{Command, ReadError, Status, print_answer, print_refusal, read_answer, read_problem};
 use wh_words::{List, OutOfMemory};
 
 /// A status and a text.
@@ -14,16 +21,28 @@ pub struct Reply {
     pub text: List<u8>,
 }
 
-/// The reply to the text of a problem, where levels may have at most `limit` tuples: the line of its first refusal, with
-/// `Refused`, or the text of its answer, with the status of that.
+/// The reply to a refusal: its line.
+fn refusal_reply(alloc: Global, refusal: ReadError) -> Result<Reply, OutOfMemory>
+    requires { refusal ≢ errors.OutOfMemory }
+    ensures status { IfOk result (λ r. r.status ≡ Refused) }
+    ensures text { IfOk result (λ r. r.text ≡ refusal_text refusal) }
+{
+    let text = print_refusal(alloc, &refusal)?;
+    Ok(Reply {
+        status: Status::Refused,
+        text: List::of(text),
+    })
+}
+
+/// The reply to the text of a problem: the line of its first refusal, or the text of its answer.
 #[tactic(auto, using(crate::proofs::ReadProblems::answerable))]
-pub fn reply_to(
+fn answer_reply(
     alloc: Global,
     command: Command,
     limit: u32,
     bytes: &[u8],
 ) -> Result<Reply, OutOfMemory>
-    ensures { IfOk result (λ r. Replies command limit bytes.now r.status r.text) }
+    ensures { IfOk result (λ r. Replies limit bytes.now (tasks.Answer command) r.status r.text) }
 {
     match read_problem(alloc, command, bytes) {
         Ok(problem) => {
@@ -35,12 +54,36 @@ pub fn reply_to(
             })
         }
         Err(ReadError::OutOfMemory) => Err(OutOfMemory),
-        Err(refusal) => {
-            let text = print_refusal(alloc, &refusal)?;
+        Err(refusal) => refusal_reply(alloc, refusal),
+    }
+}
+
+/// The reply to the text of an answer that is to be checked: the line of its first refusal, or what is found.
+fn check_reply(alloc: Global, limit: u32, bytes: &[u8]) -> Result<Reply, OutOfMemory>
+    ensures { IfOk result (λ r. Replies limit bytes.now tasks.Check r.status r.text) }
+{
+    match read_answer(alloc, bytes) {
+        Ok(numbered) => {
+            let found = check(alloc, &numbered)?;
+            let text = print_checked(alloc, found)?;
             Ok(Reply {
-                status: Status::Refused,
+                status: status_of(found),
                 text: List::of(text),
             })
         }
+        Err(ReadError::OutOfMemory) => Err(OutOfMemory),
+        Err(refusal) => refusal_reply(alloc, refusal),
+    }
+}
+
+/// The reply to the bytes of an input, where levels may have at most `limit` tuples. A problem is answered, and an answer
+/// is checked, whoever wrote it. `Refused` comes with the line of the first refusal; else the text is that of the answer,
+/// with its status, or the verdict on the certificate, with `Done` or `No`.
+pub fn reply_to(alloc: Global, task: Task, limit: u32, bytes: &[u8]) -> Result<Reply, OutOfMemory>
+    ensures { IfOk result (λ r. Replies limit bytes.now task r.status r.text) }
+{
+    match task {
+        Task::Answer(command) => answer_reply(alloc, command, limit, bytes),
+        Task::Check => check_reply(alloc, limit, bytes),
     }
 }

@@ -1,0 +1,95 @@
+-- What is told of a problem is told valid when it is checked: for the law on answers.
+use Rattle.std.proofs.Common.{◌≡◌, ◌⊎◌, ◌≤◌, ℕ, List, [], ◌∷◌, sym, ap, ◌∙◌, refl, subst, arith, inl, inr, Result, Ok, Err, Option, None, Some}
+use Rattle.std.specs.Prelude.{leb, ◌&&◌, codes}
+use Rattle.clap.specs.Words.{Row, Text, Kinds, first_of, fault_of, matches_of}
+use Rattle.std.proofs.lemmas.Bool.Decides.{nat_tests}
+use Rattle.wh_text.specs.declared.status.Status.{Status}
+use Rattle.wh_text.specs.declared.status.Status.TheVariants.{Done, No, Refused, Undecided}
+use Rattle.wh_text.specs.declared.command.Command.{Command}
+use Rattle.wh_text.specs.declared.answer.Answer as answers
+use Rattle.wh_text.specs.declared.answer.Answer.TheVariants.{Reduce, Decide}
+use Rattle.wh_text.specs.declared.answer.Verdict.TheVariants as verdicts
+use Rattle.wh_text.specs.Numbers.{number}
+use Rattle.wh_text.specs.Problems.{ProblemData, problem}
+use Rattle.wh_text.specs.AnswerTexts.{answer_text}
+use Rattle.wh_text.specs.AnswerData.{answer_of}
+use Rattle.wh_text.specs.Statuses.{answer_status}
+use Rattle.wh_text.proofs.ReadBack.{reads_back}
+use Rattle.wh_cert.specs.declared.checked.Checked.TheVariants.{Valid}
+use Rattle.wh_answer.specs.Answers.{Answers}
+use Rattle.wh_answer.specs.Certified.{IsDecided}
+use Rattle.wh_answer.proofs.Valid.{answers_valid}
+use Rattle.wh_answer.proofs.Readable.{answers_readable}
+use Rattle.whitehead.specs.declared.arguments.Task.{Task}
+use Rattle.whitehead.specs.declared.arguments.Task.TheVariants as tasks
+use Rattle.whitehead.specs.declared.arguments.Arguments.{Arguments}
+use Rattle.whitehead.specs.CommandLine.{program}
+use Rattle.whitehead.specs.Asked.{in_range, option_in, together, asked_by, asked_unless, asked, task_in}
+use Rattle.whitehead.specs.CheckedTexts.{checked_text}
+use Rattle.whitehead.specs.Replies.{Replies}
+use Rattle.whitehead.specs.Replies.Replies.{refused, answered, unread, checked}
+use Rattle.whitehead.specs.Outcome.{Told}
+use Rattle.whitehead.specs.Outcome.Told.{words_refused, replied}
+use Rattle.whitehead.specs.Laws.{AskAnswer, AskCheck, AnswersAreValid}
+use Rattle.whitehead.proofs.ReadProblems.{read_problem}
+
+-- ---- the limit of a run
+range_within : (least most : ℕ) (o : Option ℕ) (n : ℕ) → in_range least most o ≡ Some n → n ≤ most
+range_within least most None n e = absurd (cc)
+range_within least most (Some k) n e = grind (arith, nat_tests)
+
+option_within : (least most standing : ℕ) (o : Option Text) (n : ℕ) → standing ≤ most → option_in least most standing o ≡ Some n → n ≤ most
+option_within least most standing None n h e = let same : standing ≡ n = (cc) in omega (arith, h, same)
+option_within least most standing (Some t) n h e = range_within least most (number t) n e
+
+together_limit : (task : Option Task) (limit workers : Option ℕ) (a : Arguments) → together task limit workers ≡ Some a → limit ≡ Some a.limit
+together_limit None limit workers a e = absurd (cc)
+together_limit (Some task) None workers a e = absurd (cc)
+together_limit (Some task) (Some limit) None a e = absurd (cc)
+together_limit (Some task) (Some limit) (Some workers) a e =
+    let same : record { task = task; limit = limit; workers = workers } ≡ a = (cc) in
+    ap (λ (b : Arguments). Some b.limit) same
+
+unless_limit : (kinds : Kinds) (rows : List Row) (a : Arguments) → asked_unless kinds rows ≡ Some a → a.limit ≤ 131072
+unless_limit [] rows a e =
+    let limit = together_limit (task_in (first_of (codes "COMMAND") rows)) (option_in 1 131072 10000 (first_of (codes "limit") rows)) (option_in 1 64 1 (first_of (codes "workers") rows)) a e in
+    option_within 1 131072 10000 (first_of (codes "limit") rows) a.limit (omega arith) limit
+unless_limit (k ∷ ks) rows a e = absurd (cc)
+
+asked_limit : (words : List Text) (a : Arguments) → asked words ≡ Some a → a.limit ≤ 131072
+unfolding asked
+asked_limit words a e = unless_limit (fault_of program words) (matches_of program words) a e
+
+-- ---- answers that aren't undecided
+decided_by : (a : answers.Answer) → (answer_status a ≡ Done) ⊎ (answer_status a ≡ No) → IsDecided (answer_of a)
+decided_by (Reduce t s) h = tt
+decided_by (Decide s t (verdicts.Yes ms)) h = tt
+decided_by (Decide s t (verdicts.NoLength a b)) h = tt
+decided_by (Decide s t (verdicts.NoLevel a b ts)) h = tt
+decided_by (Decide s t (verdicts.Undecided bound)) (inl e) = absurd (cc)
+decided_by (Decide s t (verdicts.Undecided bound)) (inr e) = absurd (cc)
+
+-- ---- its text is checked
+valid_again : (limit : ℕ) (command : Command) (bytes : List ℕ) (p : ProblemData) (a : answers.Answer) → limit ≤ 131072 → problem command bytes ≡ Ok p → Answers limit p a → IsDecided (answer_of a) →
+    (other : ℕ) → Replies other (answer_text a) tasks.Check Done (codes "valid\n")
+unfolding checked_text
+valid_again limit command bytes p a low read own decided other =
+    let is = (read_problem command bytes p read).0 in
+    let readable = answers_readable limit p a low is own decided in
+    checked Valid (reads_back a readable.certificate readable.short) (answers_valid limit p a is own decided)
+
+reply_valid : (limit : ℕ) (bytes text : List ℕ) (task : Task) (command : Command) (status : Status) → limit ≤ 131072 → task ≡ tasks.Answer command → (status ≡ Done) ⊎ (status ≡ No) → Replies limit bytes task status text →
+    (other : ℕ) → Replies other text tasks.Check Done (codes "valid\n")
+reply_valid limit bytes text task command status low is (inl e) (refused r) other = absurd (cc)
+reply_valid limit bytes text task command status low is (inr e) (refused r) other = absurd (cc)
+reply_valid limit bytes text task command status low is decided (answered {command = own} {p = p} a r q) other = valid_again limit own bytes p a low r q (decided_by a decided) other
+reply_valid limit bytes text task command status low is decided (unread r) other = absurd (cc)
+reply_valid limit bytes text task command status low is decided (checked found r q) other = absurd (cc)
+
+pub answers_valid_again : AnswersAreValid
+answers_valid_again words others bytes text status ask (b, h, check) (inl e) (words_refused r) = absurd (cc)
+answers_valid_again words others bytes text status ask (b, h, check) (inr e) (words_refused r) = absurd (cc)
+answers_valid_again words others bytes text status (command, a, k, task) (b, h, check) decided (replied {a = d} r reply) =
+    let same : d ≡ a = (cc) in
+    replied h (subst (λ (t : Task). Replies b.limit text t Done (codes "valid\n")) (sym check)
+    (reply_valid d.limit bytes text d.task command status (asked_limit words d r) (ap (λ (v : Arguments). v.task) same ∙ task) decided reply b.limit))
