@@ -1,22 +1,30 @@
 #!/usr/bin/env python3
 """Checks an answer of `whitehead reduce` or `whitehead decide`, and shares nothing with the program.
 
-It reads the answer on standard input and writes one line:
+It reads the answer on standard input and writes the very line that `whitehead check` writes, with its exit status:
 
-    valid                           every rule holds
-    invalid line L RULE             line L is the first that breaks a rule, and RULE is the first it breaks
-    refused line L                  line L doesn't continue such an answer (L is the place past the end where lines are
-                                    missing)
-    refused no-certificate line L   line L is the heading of another command, or an undecided verdict, which has nothing
-                                    to check
-    refused level-rank N            the answer is one of `decide`, and its rank N is greater than 6
+    valid                      0    every rule holds
+    invalid line L RULE        1    line L is the first that breaks a rule, and RULE is the first it breaks
+    refused CAUSE              2    the text is no answer that can be checked
 
-The exit status is 0, 1 or 2. The rules are these, and each is broken where its sentence holds.
+A text is refused before any rule is tried. Its size comes first, and then its lines in order; the first refusal is told.
+
+    input-too-long 67108864         The text has more bytes than that.
+    bad-byte line L column C        A byte of the line isn't 32 to 126, the leftmost one in column C. This comes before
+                                    everything else of the line, and skipped lines are looked at too.
+    no-certificate line L           The line is the heading of another command, or an undecided verdict, and so there is
+                                    nothing to check. What follows isn't looked at.
+    level-rank N                    The line is the rank line of an answer of `decide`, and its rank N is greater than 6.
+    bad-line line L                 The line doesn't continue an answer in any other way. L is the place past the end
+                                    where lines are missing.
+
+The rules are these, and each is broken where its sentence holds. Lines are tried in order, and the rules of one line in
+the order in which they stand here.
 
 In the lines of a tuple that is reduced, and in those of both tuples of a no:
 
-    long      Some tuple on the way of the trace has more than 4,096 letters.
-    end       The trace doesn't take the tuple to the end.
+    long      Some tuple on the way of the trace has more than 4,096 letters. This is told in the line `trace`.
+    end       The trace doesn't take the tuple to the end. This is told in the line `end`.
     length    The ends are equally long although the verdict is `no length`, or they aren't although it is `no level`;
               this is told in the line of the second end.
     flow      The letter isn't this line's generator, the value isn't its degree in the Whitehead graph of the end, or
@@ -44,38 +52,65 @@ tuple onto the second. A valid level shows that moves which keep the length neve
 Letters are numbers here: generator g (from 0) is 2 g and its inverse 2 g + 1, so that x ^ 1 is the inverse of x.
 """
 
+import functools
 import itertools
+import re
 import sys
 
+MOST_BYTES = 67108864
+GREATEST_RANK = 26
 GREATEST_LEVEL_RANK = 6
 MOST_TUPLES = 131072
 MOST_LETTERS = 4096
 MOST_WORDS = 64
 MOST_VALUE = 2**32 - 1
+MOST_NUMBER = 2**64 - 1
+
+BAD_BYTE = re.compile(rb"[^ -~]")
+CANONICAL_NUMBER = re.compile("0|[1-9][0-9]{0,19}")
 
 
 class Refused(Exception):
-    """The text isn't an answer that can be checked, since this line doesn't continue one; `cause` tells so."""
+    """The text is no answer that can be checked, and `cause` tells why."""
+
+    def __init__(self, cause):
+        super().__init__(cause)
+        self.cause = cause
+
+
+class InputTooLong(Refused):
+    """The text has too many bytes."""
+
+    def __init__(self):
+        super().__init__(f"input-too-long {MOST_BYTES}")
+
+
+class BadByte(Refused):
+    """A byte may not stand in a line."""
+
+    def __init__(self, line, column):
+        super().__init__(f"bad-byte line {line} column {column}")
+
+
+class BadLine(Refused):
+    """This line doesn't continue an answer."""
 
     def __init__(self, line):
-        super().__init__(line)
-        self.cause = f"line {line}"
+        super().__init__(f"bad-line line {line}")
 
 
 class NoCertificate(Refused):
     """This line tells that the answer is of a kind that has nothing to check."""
 
     def __init__(self, line):
-        super().__init__(line)
-        self.cause = f"no-certificate line {line}"
+        super().__init__(f"no-certificate line {line}")
 
 
 class LevelRank(Refused):
     """An answer of `decide` has this rank, which is too great."""
 
     def __init__(self, rank):
-        super().__init__(rank)
-        self.cause = f"level-rank {rank}"
+        super().__init__(f"level-rank {rank}")
 
 
 class Broken(Exception):
@@ -156,6 +191,7 @@ def every_move(rank):
                 yield "cut", multiplier, frozenset((multiplier, *chosen))
 
 
+@functools.cache
 def every_images(rank):
     """The words that each move of a rank takes the letters to."""
     return [[image(move, x) for x in range(2 * rank)] for move in every_move(rank)]
@@ -209,9 +245,12 @@ def is_flow(graph, rank, source, value, pairs):
 
 
 class Reader:
-    """The kept lines of a text, as their numbers and their fields."""
+    """The kept lines of a text, which are those that aren't skipped and those with a bad byte: the number of each, the
+    column of its leftmost bad byte (or None), and its fields (or None where there is one)."""
 
     def __init__(self, data):
+        if len(data) > MOST_BYTES:
+            raise InputTooLong
         lines = data.split(b"\n")
         if lines[-1] == b"":
             lines.pop()
@@ -220,70 +259,77 @@ class Reader:
         self.words = None
         self.kept = []
         for number, line in enumerate(lines, 1):
-            if any(byte < 32 or byte > 126 for byte in line):
-                self.kept.append((number, None))
+            bad = BAD_BYTE.search(line)
+            if bad:
+                self.kept.append((number, bad.start() + 1, None))
             elif line.strip(b" ") and not line.startswith(b"#"):
                 fields = line.decode().split(" ")
-                self.kept.append((number, [field for field in fields if field]))
+                self.kept.append((number, None, [field for field in fields if field]))
         self.at = 0
+
+    def peek(self):
+        """The number and the fields of the next kept line."""
+        number, column, fields = self.kept[self.at]
+        if column is not None:
+            raise BadByte(number, column)
+        return number, fields
 
     def next(self, keyword):
         """The number and the further fields of the next kept line, which has this keyword."""
         if self.at == len(self.kept):
-            raise Refused(self.past)
-        number, fields = self.kept[self.at]
-        if fields is None or fields[0] != keyword:
-            raise Refused(number)
+            raise BadLine(self.past)
+        number, fields = self.peek()
+        if fields[0] != keyword:
+            raise BadLine(number)
         self.at += 1
         return number, fields[1:]
 
     def end(self):
         if self.at < len(self.kept):
-            raise Refused(self.kept[self.at][0])
+            number, _ = self.peek()
+            raise BadLine(number)
 
-    def number(self, line, text, most):
-        if not text.isdecimal() or (text[0] == "0" and text != "0") or int(text) > most:
-            raise Refused(line)
+    def number(self, line, text, least, most):
+        if not CANONICAL_NUMBER.fullmatch(text) or not least <= int(text) <= most:
+            raise BadLine(line)
         return int(text)
 
     def letter(self, line, text):
         if len(text) != 1 or not (text.isascii() and text.isalpha()):
-            raise Refused(line)
+            raise BadLine(line)
         x = 2 * (ord(text.lower()) - ord("a")) + text.isupper()
         if x >= 2 * self.rank:
-            raise Refused(line)
+            raise BadLine(line)
         return x
 
     def tuple(self, keyword):
-        """A line of words, each as its cyclic word."""
+        """A line of words, each as its cyclic word. Their letters are counted as they are written."""
         line, fields = self.next(keyword)
         words = [[] if field == "1" else [self.letter(line, c) for c in field] for field in fields]
         if len(words) > MOST_WORDS or length(words) > MOST_LETTERS:
-            raise Refused(line)
+            raise BadLine(line)
         if self.words is None:
             self.words = len(words)
         if len(words) != self.words:
-            raise Refused(line)
+            raise BadLine(line)
         return line, [cyclic_word(word) for word in words]
 
     def move(self, line, text):
-        if text[:1] == "s" and text[1:].isdecimal():
-            k = self.number(line, text[1:], self.rank - 1)
-            if k == 0:
-                raise Refused(line)
-            return "swap", k
-        if text[:1] == "i" and text[1:].isdecimal():
-            k = self.number(line, text[1:], self.rank)
-            if k == 0:
-                raise Refused(line)
-            return "invert", k
-        if text[1:2] != ":":
-            raise Refused(line)
+        if text[1:2] == ":":
+            return self.cut(line, text)
+        if text[0] == "s":
+            return "swap", self.number(line, text[1:], 1, self.rank - 1)
+        if text[0] == "i":
+            return "invert", self.number(line, text[1:], 1, self.rank)
+        raise BadLine(line)
+
+    def cut(self, line, text):
+        """A multiplier and, after a colon, the letters of the set in rising order."""
         multiplier = self.letter(line, text[0])
         letters = [self.letter(line, c) for c in text[2:]]
         rising = all(x < y for x, y in zip(letters, letters[1:]))
         if not rising or multiplier not in letters or inverse(multiplier) in letters:
-            raise Refused(line)
+            raise BadLine(line)
         return "cut", multiplier, frozenset(letters)
 
     def moves(self, keyword):
@@ -294,19 +340,18 @@ class Reader:
         """A line of a letter, a value and pairs in rising order."""
         line, fields = self.next("flow")
         if len(fields) < 2:
-            raise Refused(line)
+            raise BadLine(line)
         letter = self.letter(line, fields[0])
-        value = self.number(line, fields[1], MOST_VALUE)
+        value = self.number(line, fields[1], 0, MOST_VALUE)
         pairs = {}
         last = (-1, -1)
         for field in fields[2:]:
             if field[2:3] != ":":
-                raise Refused(line)
+                raise BadLine(line)
             pair = self.letter(line, field[0]), self.letter(line, field[1])
-            n = self.number(line, field[3:], MOST_VALUE)
-            if pair[0] == pair[1] or pair <= last or n == 0:
-                raise Refused(line)
-            pairs[pair] = n
+            if pair[0] == pair[1] or pair <= last:
+                raise BadLine(line)
+            pairs[pair] = self.number(line, field[3:], 1, MOST_VALUE)
             last = pair
         return line, letter, value, pairs
 
@@ -364,10 +409,8 @@ def check_sides(rank, first, first_side, second, second_side, one_length):
 def read_level(reader):
     line, fields = reader.next("level")
     if len(fields) != 1:
-        raise Refused(line)
-    count = reader.number(line, fields[0], MOST_TUPLES)
-    if count == 0:
-        raise Refused(line)
+        raise BadLine(line)
+    count = reader.number(line, fields[0], 1, MOST_TUPLES)
     return line, [reader.tuple("at") for _ in range(count)]
 
 
@@ -395,7 +438,7 @@ def check_level(rank, first_side, second_side, level):
 def read_end(reader):
     line, fields = reader.next("done")
     if fields:
-        raise Refused(line)
+        raise BadLine(line)
     reader.end()
 
 
@@ -440,45 +483,59 @@ def check_decided(reader):
     elif verdict == ["no", "level"]:
         check_no_level(reader, first, second)
     elif len(verdict) == 3 and verdict[0] == "undecided" and verdict[1] in ("length", "level"):
-        reader.number(line, verdict[2], MOST_VALUE)
+        reader.number(line, verdict[2], 0, MOST_NUMBER)
         raise NoCertificate(line)
     else:
-        raise Refused(line)
+        raise BadLine(line)
+
+
+def read_heading(reader):
+    """The command of the first line."""
+    line, heading = reader.next("whitehead")
+    if heading in (["1", "straighten"], ["1", "stabiliser"], ["1", "gen"]):
+        raise NoCertificate(line)
+    if heading not in (["1", "reduce"], ["1", "decide"]):
+        raise BadLine(line)
+    return heading[1]
+
+
+def read_rank(reader, greatest):
+    """The rank of the second line, which may be too great for the command."""
+    line, fields = reader.next("rank")
+    if len(fields) != 1:
+        raise BadLine(line)
+    rank = reader.number(line, fields[0], 1, GREATEST_RANK)
+    if rank > greatest:
+        raise LevelRank(rank)
+    return rank
 
 
 def check(data):
     """Returns where the answer is valid, and raises Refused or Broken elsewhere."""
     reader = Reader(data)
-    line, heading = reader.next("whitehead")
-    if heading in (["1", "straighten"], ["1", "stabiliser"], ["1", "gen"]):
-        raise NoCertificate(line)
-    if heading not in (["1", "reduce"], ["1", "decide"]):
-        raise Refused(line)
-    line, fields = reader.next("rank")
-    if len(fields) != 1:
-        raise Refused(line)
-    reader.rank = reader.number(line, fields[0], 26)
-    if reader.rank == 0:
-        raise Refused(line)
-    if heading[1] == "reduce":
+    if read_heading(reader) == "reduce":
+        reader.rank = read_rank(reader, GREATEST_RANK)
         check_reduced(reader)
-    elif reader.rank > GREATEST_LEVEL_RANK:
-        raise LevelRank(reader.rank)
     else:
+        reader.rank = read_rank(reader, GREATEST_LEVEL_RANK)
         check_decided(reader)
 
 
-def main():
+def found(data):
+    """What is told of a text, and the exit status."""
     try:
-        check(sys.stdin.buffer.read())
+        check(data)
     except Refused as refused:
-        print(f"refused {refused.cause}")
-        return 2
+        return f"refused {refused.cause}", 2
     except Broken as broken:
-        print(f"invalid line {broken.line} {broken.rule}")
-        return 1
-    print("valid")
-    return 0
+        return f"invalid line {broken.line} {broken.rule}", 1
+    return "valid", 0
+
+
+def main():
+    text, status = found(sys.stdin.buffer.read(MOST_BYTES + 1))
+    print(text)
+    return status
 
 
 if __name__ == "__main__":
