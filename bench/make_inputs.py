@@ -64,6 +64,8 @@ def main():
     for rank in (4, 6):
         basis = [[2 * g] for g in range(rank)]
         write(f"level_rank{rank}", "A basis and the same in reverse order.", rank, basis, basis[::-1])
+    basis = [[2 * g] for g in range(6)]
+    write("no_level_rank6", "A basis, and the same with one letter twice.", 6, basis, basis[:5] + basis[4:5])
     write("no_level_rank4", "Surface words of two surfaces.", 4, [surface(2)], [squares(4)])
     write("passed_rank6", "Surface words of two surfaces, whose level is larger than 10,000 tuples.", 6, [surface(3)], [squares(6)])
     write("words_rank3", "Twenty words of three letters and more, and the same with every generator inverted.", 3, *[[[x ^ flip for x in word] for word in ([0, 2, 4] * (k % 3 + 1) + [2 * (k % 3)] * (k % 4) for k in range(20))] for flip in (0, 1)])
