@@ -1,14 +1,17 @@
--- What holds of all answers, as statements that contracts name.
-use Rattle.std.specs.Prelude.{◌≡◌, ℕ, ◌≤◌, length}
+-- What holds of all answers, and of all valid certificates, as statements that contracts name.
+use Rattle.std.specs.Prelude.{◌≡◌, ℕ, ◌≤◌, List, length}
 use Rattle.wh_words.specs.Tuples.{IsTuple}
 use Rattle.wh_text.specs.declared.answer.Answer.{Answer}
 use Rattle.wh_text.specs.Problems.{ProblemData}
 use Rattle.wh_text.specs.Problems.ProblemData.{reduce, decide}
-use Rattle.wh_text.specs.AnswerData.{answer_of}
+use Rattle.wh_text.specs.AnswerData.{AnswerData, answer_of}
 use Rattle.wh_text.specs.AnswerTexts.{answer_text}
 use Rattle.wh_text.specs.Statuses.{answer_status}
+use Rattle.wh_text.specs.Numberings.{IsAnswerOfOneRank}
+use Rattle.wh_cert.specs.Demands.{asked}
+use Rattle.wh_cert.specs.Checks.{AreMet}
 use Rattle.wh_answer.specs.Answers.{Answers}
-use Rattle.wh_answer.specs.Certified.{IsDecided, IsReadable}
+use Rattle.wh_answer.specs.Certified.{IsDecided, IsReadable, HasTuples, Shows}
 
 -- What is known of a problem that was read: its tuples are of a rank that its command allows, and two tuples have one rank and equally many words.
 abbrev pub IsProblem : ProblemData → Type 0
@@ -22,3 +25,7 @@ AnswerIsUnique = (limit : ℕ) (p : ProblemData) (a b : Answer) → IsProblem p 
 -- What is answered to a problem that was read is a certificate whose text isn't too long, unless it is undecided.
 abbrev pub AnswersAreReadable : Type 0
 AnswersAreReadable = (limit : ℕ) (p : ProblemData) (a : Answer) → limit ≤ 131072 → IsProblem p → Answers limit p a → IsDecided (answer_of a) → IsReadable a
+
+-- A certificate of which all that is asked is so, whoever wrote it, shows this, whatever letters and values its `flow` lines tell.
+abbrev pub ValidShows : Type 0
+ValidShows = (heads : List (ℕ × ℕ)) (a : AnswerData) → IsAnswerOfOneRank a → HasTuples a → AreMet (asked heads a) → Shows a

@@ -1,5 +1,5 @@
 //! Laws of answers. Each is the contract of a function that does nothing.
-ghost use Rattle.wh_answer.specs.Laws.{AnswerIsUnique, AnswersAreReadable};
+ghost use Rattle.wh_answer.specs.Laws.{AnswerIsUnique, AnswersAreReadable, ValidShows};
 
 /// A problem and a limit have one text and one status that answer it.
 pub fn unique_answers()
@@ -9,4 +9,9 @@ pub fn unique_answers()
 /// What is answered to a problem that was read is a certificate whose text isn't too long, unless it is undecided.
 pub fn readable_answers()
     ensures { AnswersAreReadable }
+{}
+
+/// What a valid certificate shows, whoever wrote it.
+pub fn valid_certificates()
+    ensures { ValidShows }
 {}

@@ -1,0 +1,125 @@
+-- What a valid certificate shows, whoever wrote it.
+use Rattle.std.proofs.Common.{◌≡◌, ◌≢◌, ℕ, zero, suc, ◌+◌, ◌*◌, ◌<◌, ◌≤◌, List, [], ◌∷◌, ◌++◌, length, get_or, inl, inr, Contains, refl, subst, arith}
+use Rattle.std.specs.List.{All}
+use Rattle.std.proofs.lemmas.Bool.{cases_lt}
+use Rattle.std.proofs.lemmas.List.{length-append, get_or_append_left, get_or-append-add}
+use Rattle.std.proofs.lemmas.List.Elements.{All-head, All-tail, All-from_get_or, All-contains}
+use Rattle.wh_words.specs.Tuples.{TupleData, IsTuple, tuple_length}
+use Rattle.wh_words.specs.Moves.{Move}
+use Rattle.wh_words.specs.Action.{act_all}
+use Rattle.wh_words.specs.Traces.{IsFlat}
+use Rattle.wh_words.specs.Flows.{HasValue}
+use Rattle.wh_words.specs.Levels.{InLevel, Reaches}
+use Rattle.wh_words.specs.Levels.Reaches.{here, step}
+use Rattle.wh_flow.specs.Nets.{cell}
+use Rattle.wh_reduce.proofs.Certificates.{flows_flat}
+use Rattle.wh_text.specs.AnswerData.{SideData}
+use Rattle.wh_text.specs.AnswerData.VerdictData.{yes, no_length, no_level, undecided}
+use Rattle.wh_text.specs.AnswerData.AnswerData.{reduce, decide}
+use Rattle.wh_text.specs.Numberings.{side_lines}
+use Rattle.wh_cert.specs.Demands.{Demand, Placed, fit_on_the_way, moves_carry, lengths_differ, lengths_agree, rises, has_height, is_absent, is_closed, has_root, has_flow, trace_ends, IsGeneratorFlow, ImagesAreIn, IsMet, tuple_at, asked_below, trace_asked, flow_asked, flows_asked, side_asked, sides_asked, at_asked, level_asked}
+use Rattle.wh_cert.specs.Checks.{AreMet}
+use Rattle.wh_answer.specs.Certified.{LeadsToFlatEnd}
+use Rattle.wh_answer.specs.Laws.{ValidShows}
+
+-- ---- parts of what is asked
+first_part : (ds es : List Placed) → AreMet (ds ++ es) → AreMet ds
+first_part ds es met k d l = subst (λ (e : Placed). IsMet e.1) (get_or_append_left ds es d k l) (met k d (omega (arith, length-append ds es, l)))
+
+rest_part : (ds es : List Placed) → AreMet (ds ++ es) → AreMet es
+rest_part ds es met k d l = subst (λ (e : Placed). IsMet e.1) (get_or-append-add ds es k d) (met (length ds + k) d (omega (arith, length-append ds es, l)))
+
+first_met : (place : ℕ) (d : Demand) (ds : List Placed) → AreMet ((place, d) ∷ ds) → IsMet d
+first_met place d ds met = All-head (λ (e : Placed). IsMet e.1) (place, d) ds met
+
+rest_met : (place : ℕ) (d : Demand) (ds : List Placed) → AreMet ((place, d) ∷ ds) → AreMet ds
+rest_met place d ds met = All-tail (λ (e : Placed). IsMet e.1) (place, d) ds met
+
+-- What is asked in one turn.
+met_in : (asked : ℕ → List Placed) (n k : ℕ) → k < n → AreMet (asked_below asked n) → AreMet (asked k)
+unfolding asked_below
+met_in asked zero k l met = absurd (omega (arith, l))
+met_in asked (suc n) k l met = elim (cases_lt k n) [
+  | inl below ↦ met_in asked n k below (first_part (asked_below asked n) (asked n) met)
+  | inr above ↦
+      let last : n ≡ k = omega (arith, above, l) in
+      subst (λ (j : ℕ). AreMet (asked j)) last (rest_part (asked_below asked n) (asked n) met)
+]
+
+-- ---- sides
+trace_leads : (place : ℕ) (t : TupleData) (s : SideData) → AreMet (trace_asked place t s) → act_all t s.trace ≡ s.end
+trace_leads place t s met = first_met (place + 1) (trace_ends t s.trace s.end) [] (rest_met place (fit_on_the_way t s.trace) ((place + 1, trace_ends t s.trace s.end) ∷ []) met)
+
+end_flat : (place from : ℕ) (heads : List (ℕ × ℕ)) (s : SideData) → IsTuple s.end → s.end.rank ≤ 26 → AreMet (flows_asked place from heads s) → IsFlat s.end
+end_flat place from heads s is low met =
+    flows_flat s.end is low (λ g l.
+    let f : List ℕ = get_or s.flows g [] in
+    let head : ℕ × ℕ = get_or heads (from + g) (0, 0) in
+    let shown : IsGeneratorFlow s.end g head f = first_met (place + g) (has_flow s.end g head f) [] (met_in (flow_asked place from heads s) s.end.rank g l met) in
+    (cell f, shown.flow, subst (HasValue (cell f) (2 * g)) shown.degree shown.value))
+
+side_shown : (place : ℕ) (heads : List (ℕ × ℕ)) (t : TupleData) (s : SideData) → IsTuple s.end → s.end.rank ≤ 26 → AreMet (side_asked place heads t s) → LeadsToFlatEnd t s
+side_shown place heads t s is low met =
+    let trace : List Placed = trace_asked place t s in
+    let flows : List Placed = flows_asked (place + 2) 0 heads s in
+    record { leads = trace_leads place t s (first_part trace flows met); flat = end_flat (place + 2) 0 heads s is low (rest_part trace flows met) }
+
+sides_shown : (place n : ℕ) (heads : List (ℕ × ℕ)) (s t : TupleData) (a b : SideData) (lengths : TupleData → TupleData → Demand) → IsTuple a.end → IsTuple b.end → a.end.rank ≤ 26 → b.end.rank ≤ 26 → AreMet (sides_asked place n heads s t a b lengths) →
+    LeadsToFlatEnd s a × LeadsToFlatEnd t b × IsMet (lengths a.end b.end)
+sides_shown place n heads s t a b lengths is other low other_low met =
+    let at : ℕ = place + side_lines n in
+    let ends : Demand = lengths a.end b.end in
+    let side : List Placed = side_asked place heads s a in
+    let trace : List Placed = trace_asked at t b in
+    let flows : List Placed = flows_asked (at + 2) n heads b in
+    let second : AreMet (trace ++ ((at + 1, ends) ∷ flows)) = rest_part side (trace ++ ((at + 1, ends) ∷ flows)) met in
+    let last : AreMet ((at + 1, ends) ∷ flows) = rest_part trace ((at + 1, ends) ∷ flows) second in (
+      side_shown place heads s a is low (first_part side (trace ++ ((at + 1, ends) ∷ flows)) met),
+      record { leads = trace_leads at t b (first_part trace ((at + 1, ends) ∷ flows) second); flat = end_flat (at + 2) n heads b other other_low (rest_met (at + 1) ends flows last) },
+      first_met (at + 1) ends flows last,
+    )
+
+-- ---- levels
+module _ (place : ℕ) (root second : TupleData) (ts : List TupleData) (met : AreMet (level_asked place root second ts)) where
+  root_in : Contains ts root
+  root_in = first_met place (has_root root ts) (asked_below (at_asked (place + 1) root second ts) (length ts)) met
+
+  -- The last two demands on a tuple of the level.
+  last_met : (k : ℕ) → k < length ts → (tuple_at ts k ≢ second) × ImagesAreIn ts (tuple_at ts k)
+  last_met k l =
+      let at : ℕ = place + 1 + k in
+      let t : TupleData = tuple_at ts k in
+      let all : AreMet (at_asked (place + 1) root second ts k) =
+      met_in (at_asked (place + 1) root second ts) (length ts) k l (rest_met place (has_root root ts) (asked_below (at_asked (place + 1) root second ts) (length ts)) met) in
+      let two : AreMet ((at, is_absent second t) ∷ (at, is_closed ts t) ∷ []) =
+      rest_part ((at, rises ts k) ∷ (at, has_height root t) ∷ []) ((at, is_absent second t) ∷ (at, is_closed ts t) ∷ []) all in
+      (first_met at (is_absent second t) ((at, is_closed ts t) ∷ []) two, first_met at (is_closed ts t) [] (rest_met at (is_absent second t) ((at, is_closed ts t) ∷ []) two))
+
+  all_closed : All (ImagesAreIn ts) ts
+  all_closed = All-from_get_or (ImagesAreIn ts) ts (record { rank = 0; words = [] }) (λ k l. (last_met k l).1)
+
+  all_absent : All (λ t. t ≢ second) ts
+  all_absent = All-from_get_or (λ t. t ≢ second) ts (record { rank = 0; words = [] }) (λ k l. (last_met k l).0)
+
+  -- Level moves lead from a tuple of the list to tuples of the list alone.
+  stays : {t u : TupleData} {ms : List Move} → Contains ts t → Reaches t ms u → Contains ts u
+  stays there here = there
+  stays {t} there (step {m = m} l r) = stays (All-contains (ImagesAreIn ts) ts t all_closed there m l) r
+
+  off_level : ¬ (InLevel root second)
+  off_level walk = All-contains (λ t. t ≢ second) ts second all_absent (stays root_in walk.1) refl
+
+-- ---- answers
+pub valid_shows : ValidShows
+valid_shows heads (reduce t s) one are met = side_shown 3 heads t s are.2 (omega (arith, one.end, are.1)) met
+valid_shows heads (decide s t (yes ms)) one are met = first_met 5 (moves_carry s ms t) [] (rest_met 5 (fit_on_the_way s ms) ((5, moves_carry s ms t) ∷ []) met)
+valid_shows heads (decide s t (no_length a b)) one are met =
+    sides_shown 5 s.rank heads s t a b lengths_differ are.3.0 are.3.1 (omega (arith, one.1.0.end, are.2)) (omega (arith, one.1.1.end, are.2)) met
+valid_shows heads (decide s t (no_level a b ts)) one are met =
+    let at : ℕ = 5 + 2 * side_lines s.rank in
+    let sides : List Placed = sides_asked 5 s.rank heads s t a b lengths_agree in
+    let level : List Placed = level_asked at a.end b.end ts in
+    let shown : LeadsToFlatEnd s a × LeadsToFlatEnd t b × (tuple_length a.end ≡ tuple_length b.end) =
+    sides_shown 5 s.rank heads s t a b lengths_agree are.3.0 are.3.1 (omega (arith, one.1.0.end, are.2)) (omega (arith, one.1.1.end, are.2)) (first_part sides level met) in
+    (shown.0, shown.1, shown.2, off_level at a.end b.end ts (rest_part sides level met))
+valid_shows heads (decide s t (undecided bound)) one are met = tt
