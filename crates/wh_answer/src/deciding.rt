@@ -1,8 +1,11 @@
 //! The verdict on two tuples.
-ghost use Rattle.std.specs.Prelude.{◌≡◌, ◌≢◌, ℕ, ◌≤◌, length, IfOk};
+ghost use Rattle.std.specs.Prelude.{◌≡◌, ◌≢◌, ℕ, ◌≤◌, ◌++◌, length, IfOk};
 ghost use Rattle.wh_words.specs.Tuples.{TupleData, tuple_length};
+ghost use Rattle.wh_words.specs.MoveLists.{inverse_list};
 ghost use Rattle.wh_words.specs.CapacityTraces.{IsTight};
+ghost use Rattle.wh_words.specs.Levels.{InLevel};
 ghost use Rattle.wh_level.specs.Trees.{IsClosed};
+ghost use Rattle.wh_text.specs.declared.answer.Verdict.TheVariants.{Yes};
 ghost use Rattle.wh_text.specs.AnswerTexts.{IsPrintableVerdict};
 ghost use Rattle.wh_answer.specs.Answers.{IsVerdict};
 ghost use Rattle.wh_answer.specs.Traced.{AreTraced, AreApart};
@@ -12,6 +15,7 @@ use crate::joining::joined;
 use crate::side::side_of;
 use std::alloc::Global;
 use wh_level::Level;
+use wh_moves::Move;
 use wh_reduce::{Trace, reduce};
 use wh_text::{Bound, Verdict};
 use wh_walk::walk;
@@ -34,14 +38,49 @@ fn other_lengths(alloc: Global, first: Trace, second: Trace) -> Result<Verdict, 
     Ok(Verdict::NoLength(first, second))
 }
 
+/// The yes by the moves of a trace, then others, and then the inverse of a second trace.
+fn yes_by(
+    alloc: Global,
+    first: &Trace,
+    between: &[Move],
+    second: &Trace,
+) -> Result<Verdict, OutOfMemory>
+    ensures yes { IfOk result (λ v. v ≡ Yes (first.now.moves ++ (between.now ++ inverse_list second.now.moves))) }
+    ensures printable { IfOk result IsPrintableVerdict }
+{
+    let moves = joined(alloc, first.moves.items(), between, second.moves.items())?;
+    Ok(Verdict::Yes(List::of(moves)))
+}
+
 /// The verdict where the traces end at one tuple.
 fn one_end(alloc: Global, first: Trace, second: Trace) -> Result<Verdict, OutOfMemory>
     requires { first.end.plain ≡ second.end.plain }
     ensures verdict { (limit : ℕ) (s t : TupleData) → AreTraced s t first second → IfOk result (IsVerdict limit s t) }
     ensures printable { IfOk result IsPrintableVerdict }
 {
-    let moves = joined(alloc, first.moves.items(), &[], second.moves.items())?;
-    Ok(Verdict::Yes(List::of(moves)))
+    yes_by(alloc, &first, &[], &second)
+}
+
+/// The verdict where the second end isn't in the level of the first.
+fn off_level(
+    alloc: Global,
+    first: Trace,
+    second: Trace,
+    level: Level,
+) -> Result<Verdict, OutOfMemory>
+    requires first_tight { IsTight first.end.plain }
+    requires second_tight { IsTight second.end.plain }
+    requires apart { AreApart first second }
+    requires low { tuple_length first.end.plain ≤ 256 }
+    requires closed { IsClosed level }
+    requires root { level.root ≡ first.end.plain }
+    requires off { ¬ (InLevel level.root second.end.plain) }
+    ensures verdict { (limit : ℕ) (s t : TupleData) → length level.tuples ≤ limit → AreTraced s t first second → IfOk result (IsVerdict limit s t) }
+    ensures printable { IfOk result IsPrintableVerdict }
+{
+    let first = side_of(alloc, first)?;
+    let second = side_of(alloc, second)?;
+    Ok(Verdict::NoLevel(first, second, List::of(level.into_tuples())))
 }
 
 /// The verdict where the traces end apart, and the level of the first end is known.
@@ -61,15 +100,8 @@ fn decide_in(
     ensures printable { IfOk result IsPrintableVerdict }
 {
     match walk(alloc, &level, &second.end)? {
-        Some(moves) => {
-            let moves = joined(alloc, first.moves.items(), &moves, second.moves.items())?;
-            Ok(Verdict::Yes(List::of(moves)))
-        }
-        None => {
-            let first = side_of(alloc, first)?;
-            let second = side_of(alloc, second)?;
-            Ok(Verdict::NoLevel(first, second, List::of(level.into_tuples())))
-        }
+        Some(moves) => yes_by(alloc, &first, &moves, &second),
+        None => off_level(alloc, first, second, level),
     }
 }
 

@@ -1,5 +1,5 @@
 -- What rows miss, row by row and move by move.
-use Rattle.std.proofs.Common.{◌≡◌, ◌≢◌, ◌⊎◌, ◌↔◌, ℕ, zero, suc, ◌≤◌, List, [], ◌∷◌, ◌++◌, get_or, map, Option, Some, None, slice_get, Contains, refl, sym, ap, ◌∙◌, subst, arith, inl, inr, Bool, true, false, not, is_some}
+use Rattle.std.proofs.Common.{◌≡◌, ◌≢◌, ◌⊎◌, ◌↔◌, ℕ, zero, suc, List, [], ◌∷◌, ◌++◌, get_or, map, Option, Some, None, slice_get, Contains, refl, sym, ap, ◌∙◌, subst, arith, inl, inr, Bool, true, false, not, is_some}
 use Rattle.std.proofs.lemmas.Bool.{true≢false}
 use Rattle.std.proofs.lemmas.List.{length-map, map_push, get_or-map}
 use Rattle.std.proofs.lemmas.Option.{slice_get_within, get_or_from_slice_get}
@@ -11,11 +11,11 @@ use Rattle.std.specs.Option.{MatchOption}
 use Rattle.wh_words.specs.Tuples.{TupleData, Tuple, tuple_cmp}
 use Rattle.wh_words.specs.Moves.{Move}
 use Rattle.wh_words.specs.Action.{act}
-use Rattle.wh_words.specs.Levels.{IsLevelMove, InLevel, IsLevel}
+use Rattle.wh_words.specs.Levels.{IsLevelMove, InLevel}
 use Rattle.wh_expand.specs.declared.row.Row.{Row}
 use Rattle.wh_expand.specs.Rows.{AreLevelMoves, row_tuple}
 use Rattle.wh_level.specs.PlacedTuples.{tuples_of, IsAdded, IsPlacing}
-use Rattle.wh_level.specs.Trees.{Parents, AreParents, IsClosed}
+use Rattle.wh_level.specs.Trees.{LevelData, IsClosed}
 use Rattle.wh_level.specs.Sealings.{IsMissed}
 use Rattle.wh_level.specs.Searches.{IsAbsentImage}
 
@@ -250,13 +250,10 @@ within_level root rows ps p all = λ k d h.
     subst (InLevel root) r.2 (All-contains (λ x. InLevel root (row_tuple x)) rows r.0 all r.1)
 
 -- ---- what sealing answers
-pub closed_of : (root : TupleData) (rows : List Row) (ps : List (TupleData × ℕ)) (own : Tuple) (tuples : List Tuple) (parents : Parents) → root.rank ≤ 6 → IsPlacing (map row_tuple rows) ps
-    → own.plain ≡ root → map (λ (t : Tuple). t.plain) tuples ≡ tuples_of ps → IsLevel root (tuples_of ps) × AreParents root (tuples_of ps) parents
-    → IsClosed (record { root = own.plain; tuples = map (λ (t : Tuple). t.plain) tuples; parents = parents }) × (own.plain ≡ root)
-    × ((t : TupleData) → Contains (map (λ (u : Tuple). u.plain) tuples) t ↔ Contains (map row_tuple rows) t)
-closed_of root rows ps own tuples parents rank p is copied both = (
-  subst (λ (r : TupleData). IsClosed (record { root = r; tuples = map (λ (t : Tuple). t.plain) tuples; parents = parents })) (sym is)
-      (subst (λ (ts : List TupleData). IsClosed (record { root = root; tuples = ts; parents = parents })) (sym copied) (record { rank = rank; level = both.0; parents = both.1 })),
+pub closed_of : (root : TupleData) (rows : List Row) (ps : List (TupleData × ℕ)) (level : LevelData) → IsPlacing (map row_tuple rows) ps → IsClosed level → level.root ≡ root → level.tuples ≡ tuples_of ps
+    → IsClosed level × (level.root ≡ root) × ((t : TupleData) → Contains level.tuples t ↔ Contains (map row_tuple rows) t)
+closed_of root rows ps level p closed is copied = (
+  closed,
   is,
   λ t. (
     λ c. placed_has_row (map row_tuple rows) ps t p (subst (λ (ts : List TupleData). Contains ts t) copied c),

@@ -1,8 +1,9 @@
 //! Exploring a level on one thread.
-ghost use Rattle.std.specs.Prelude.{◌≡◌, ℕ, ◌≤◌, length, map, IfOk, OnOk};
+ghost use Rattle.std.specs.Prelude.{◌≡◌, ℕ, ◌+◌, ◌≤◌, length, map, IfOk, OnOk, IfSome};
 ghost use Rattle.std.specs.List.{All};
+ghost use Rattle.std.specs.Option.{MatchOption};
 ghost use Rattle.wh_words.specs.Tuples.{tuple_length};
-ghost use Rattle.wh_words.specs.Levels.{InLevel};
+ghost use Rattle.wh_words.specs.Levels.{InLevel, HasMoreThan};
 ghost use Rattle.wh_expand.specs.Rows.{IsRow, row_tuple};
 ghost use Rattle.wh_workers.specs.Explorations.{Explores, CountsTuples, HasRoomFor, HasMetImages, IsWhole};
 
@@ -54,6 +55,35 @@ fn closed(alloc: Global, root: &Tuple, rows: &[Row]) -> Result<Explored, OutOfMe
     }
 }
 
+/// The rows of all tuples of the level of a root, whose rank is at most 6, each expanded once. None comes exactly where
+/// the level has more tuples than the limit.
+fn all_rows<L: Ledger>(
+    alloc: Global,
+    root: &Tuple,
+    limit: u32,
+    known: &mut KnownTuples,
+    scratch: &mut Tuple,
+    steps: &mut Steps<L>,
+) -> Result<Option<Vec<Row>>, OutOfMemory>
+    requires rank { root.now.plain.rank ≤ 6 }
+    requires none_known { length known.old ≡ 0 }
+    requires room { HasRoomFor scratch.old root.now.plain }
+    ensures rows { IfOk result (λ o. MatchOption o (HasMoreThan root.now.plain limit) (λ rows. All IsRow rows.items × IsWhole root.now.plain (map row_tuple rows.items) × (length rows.items ≤ limit))) }
+    ensures steps { IfOk result (λ o. IfSome o (λ rows. steps.new ≡ steps.old + length rows.items)) }
+{
+    known.meet(alloc, root)?;
+    let mut rows = Vec::new(alloc);
+    'expand: while rows.len() < known.len() {
+        if known.exceeds(limit) {
+            return Ok(None);
+        }
+        let row = level_moves(alloc, known.tuple(rows.len()), steps)?;
+        meet_images(alloc, &row, limit, known, scratch)?;
+        rows.push(row)?;
+    }
+    Ok(Some(rows))
+}
+
 /// The level of a root of rank 6 at most, or `Passed`, which comes exactly where it has more tuples than the limit. Each
 /// tuple is expanded once, so that a level that is answered took one step for each of its tuples (Lyndon and Schupp, I.4).
 pub fn explore_one<L: Ledger>(
@@ -66,18 +96,12 @@ pub fn explore_one<L: Ledger>(
     ensures explored { IfOk result (Explores root.now.plain limit) }
     ensures steps { IfOk result (CountsTuples steps.old steps.new) }
 {
-    let mut known = KnownTuples::new(alloc);
-    known.meet(alloc, root)?;
     let mut scratch = Tuple::with_room(alloc, root.rank(), root.count(), root.length() as usize)?;
-    let mut rows = Vec::new(alloc);
-    'expand: while rows.len() < known.len() {
-        if known.exceeds(limit) {
-            return Ok(Explored::Passed);
-        }
-        let row = level_moves(alloc, known.tuple(rows.len()), steps)?;
-        meet_images(alloc, &row, limit, &mut known, &mut scratch)?;
-        rows.push(row)?;
-    }
+    let mut known = KnownTuples::new(alloc);
+    let rows = all_rows(alloc, root, limit, &mut known, &mut scratch, steps);
     drop(known);
-    closed(alloc, root, &rows)
+    match rows? {
+        Some(rows) => closed(alloc, root, &rows),
+        None => Ok(Explored::Passed),
+    }
 }

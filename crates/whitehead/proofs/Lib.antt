@@ -4,5 +4,5 @@ pub mod Pieces
 pub mod Telling
 pub mod ReadProblems
 pub mod OneText
-pub mod Refusing
+pub mod KnownReplies
 pub mod Checking
