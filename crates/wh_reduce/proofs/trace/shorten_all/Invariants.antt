@@ -1,11 +1,11 @@
 use Rattle.wh_words.specs.Tuples.{tuple_length}
 use Rattle.wh_reduce.proofs.Traced.{Traced, AreRoomy}
-use Rattle.wh_reduce.proofs.trace.reduce.Given as goal
+use Rattle.wh_reduce.proofs.trace.shorten_all.Given as goal
 
 abbrev pub invariant-loop-m : goal.invariant-loop-m
 invariant-loop-m l = record {
-  traced : Traced l.tuple.plain l.moves.items l.end.plain;
-  roomy : AreRoomy l.tuple.plain l.end l.spare;
+  traced : Traced l.initial.end.plain l.moves.items l.end.plain;
+  roomy : AreRoomy l.initial.end.plain l.end l.spare;
 }
 
 abbrev pub decreases-loop-m : goal.decreases-loop-m
