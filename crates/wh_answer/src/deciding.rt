@@ -1,5 +1,6 @@
 //! The verdict on two tuples.
 ghost use Rattle.std.specs.Prelude.{◌≡◌, ◌≢◌, ℕ, ◌≤◌, ◌++◌, length, IfOk};
+ghost use Rattle.wh_words.specs.Limits.{most_level_rank, most_level_length};
 ghost use Rattle.wh_words.specs.Tuples.{TupleData, tuple_length};
 ghost use Rattle.wh_words.specs.MoveLists.{inverse_list};
 ghost use Rattle.wh_words.specs.CapacityTraces.{IsTight};
@@ -19,11 +20,8 @@ use wh_moves::Move;
 use wh_reduce::{Trace, reduce};
 use wh_text::{Bound, Verdict};
 use wh_walk::walk;
-use wh_words::{List, OutOfMemory, Tuple};
+use wh_words::{List, MOST_LEVEL_LENGTH, OutOfMemory, Tuple};
 use wh_workers::Explored;
-
-/// How many letters the tuples of a level may have.
-const MOST_LEVEL_LETTERS: u32 = 256;
 
 /// The verdict where the traces end at different lengths.
 fn other_lengths(alloc: Global, first: Trace, second: Trace) -> Result<Verdict, OutOfMemory>
@@ -71,7 +69,7 @@ fn off_level(
     requires first_tight { IsTight first.end.plain }
     requires second_tight { IsTight second.end.plain }
     requires apart { AreApart first second }
-    requires low { tuple_length first.end.plain ≤ 256 }
+    requires low { tuple_length first.end.plain ≤ most_level_length }
     requires closed { IsClosed level }
     requires root { level.root ≡ first.end.plain }
     requires off { ¬ (InLevel level.root second.end.plain) }
@@ -93,7 +91,7 @@ fn decide_in(
     requires first_tight { IsTight first.end.plain }
     requires second_tight { IsTight second.end.plain }
     requires apart { AreApart first second }
-    requires low { tuple_length first.end.plain ≤ 256 }
+    requires low { tuple_length first.end.plain ≤ most_level_length }
     requires closed { IsClosed level }
     requires root { level.root ≡ first.end.plain }
     ensures verdict { (limit : ℕ) (s t : TupleData) → length level.tuples ≤ limit → AreTraced s t first second → IfOk result (IsVerdict limit s t) }
@@ -112,7 +110,7 @@ fn decide_apart(
     second: Trace,
     limit: u32,
 ) -> Result<Verdict, OutOfMemory>
-    requires rank { first.end.plain.rank ≤ 6 }
+    requires rank { first.end.plain.rank ≤ most_level_rank }
     requires first_tight { IsTight first.end.plain }
     requires second_tight { IsTight second.end.plain }
     requires apart { AreApart first second }
@@ -120,7 +118,7 @@ fn decide_apart(
     ensures printable { IfOk result IsPrintableVerdict }
 {
     let letters = first.end.length();
-    if letters > MOST_LEVEL_LETTERS {
+    if letters > MOST_LEVEL_LENGTH {
         return Ok(Verdict::Undecided(Bound::Length(letters)));
     }
     match explore(alloc, &first.end, limit)? {
@@ -136,7 +134,7 @@ fn decide_traced(
     second: Trace,
     limit: u32,
 ) -> Result<Verdict, OutOfMemory>
-    requires rank { first.end.plain.rank ≤ 6 }
+    requires rank { first.end.plain.rank ≤ most_level_rank }
     requires first_tight { IsTight first.end.plain }
     requires second_tight { IsTight second.end.plain }
     ensures verdict { (s t : TupleData) → AreTraced s t first second → IfOk result (IsVerdict limit s t) }
@@ -158,7 +156,7 @@ pub fn decide(
     second: &Tuple,
     limit: u32,
 ) -> Result<Verdict, OutOfMemory>
-    requires rank { first.now.plain.rank ≤ 6 }
+    requires rank { first.now.plain.rank ≤ most_level_rank }
     requires one_rank { first.now.plain.rank ≡ second.now.plain.rank }
     ensures verdict { IfOk result (IsVerdict limit first.now.plain second.now.plain) }
     ensures printable { IfOk result IsPrintableVerdict }

@@ -2,6 +2,7 @@
 use Rattle.std.specs.Prelude.{◌≡◌, ◌⊎◌, ℕ, ◌≤◌, List, [], ◌∷◌, ◌++◌, length, map, Some, slice_get, Contains}
 use Rattle.std.specs.List.{All}
 use Rattle.std.specs.List.Sorted.{IsStrictlySortedBy}
+use Rattle.wh_words.specs.Limits.{most_letters}
 use Rattle.wh_words.specs.Tuples.{TupleData, Tuple, tuple_cmp, tuple_length}
 
 -- The tuples by place.
@@ -30,7 +31,7 @@ pub record IsOrderedPlacing (ts : List TupleData) (es : List (TupleData × ℕ))
 pub record HasRoomsFor (into : Tuple) (t : TupleData) : Type 0 where
   pub letters : tuple_length t ≤ into.room
   pub words : length t.words ≤ into.word_room
-  pub within : into.room ≤ 4096
+  pub within : into.room ≤ most_letters
 
 -- The rooms stay.
 pub record KeepsRooms (old new : Tuple) : Type 0 where
