@@ -25,11 +25,14 @@ fn roomy_copy(alloc: Global, tuple: &Tuple) -> Result<Tuple, OutOfMemory>
 /// The tuple after a list of moves of its rank, the first move first, in memory of its own (Lyndon and Schupp, I.4). The
 /// empty list gives an equal tuple. `TooLong` comes exactly where a tuple on the way has more than 4,096 letters: its
 /// place is the number of the first move, counted from 1, after which there are more, and its length is their number. The
-/// memory taken is that of two tuples, however many moves there are.
+/// tuple has room for 4,096 letters and for its own words. The memory taken is that of two tuples, however many moves
+/// there are.
 #[tactic(auto, using(crate::proofs::ActedLists::way_start))]
 pub fn act_all(alloc: Global, tuple: &Tuple, list: &[Move]) -> Result<Tuple, ActError>
     requires { All (λ m. m.rank ≡ tuple.now.plain.rank) list.now }
     ensures acted { IfOk result (λ t. t.plain ≡ spec.act_all tuple.now.plain list.now) }
+    ensures room { IfOk result (λ t. t.room ≡ 4096) }
+    ensures word_room { IfOk result (λ t. t.word_room ≡ length tuple.now.plain.words) }
     ensures fits { IfOk result (λ _. FitsOnTheWay tuple.now.plain list.now) }
     ensures fault { IfErr result (IsActAllFault tuple.now.plain list.now) }
 {
