@@ -23,7 +23,8 @@ use Rattle.wh_words.proofs.ImageLetters.{act_tuple}
 use Rattle.wh_moves.proofs.IdentityCuts.{identity_acts, identity_or_not}
 use Rattle.wh_level.specs.Laws.{KeepsLength, LevelIsWhatIsReached, LevelIsUnique, LimitIsExact, FirstWalkIsUnique}
 use Rattle.wh_level.specs.Laws.KeepsLength.{done as kept_done, step as kept_step}
-use Rattle.wh_level.proofs.Shortlex.{move_cmp_total, same_moves}
+use Rattle.wh_moves.specs.MoveOrders.{move_cmp_total}
+use Rattle.wh_level.proofs.Shortlex.{same_moves}
 
 -- ---- the order of tuples
 pub tuple_cmp_total : IsTotalOrder tuple_cmp
@@ -120,10 +121,9 @@ in_level_from_kept {t} is (kept_step {m = m} {ms = ms} valid rank kept rest) =
     ]
 
 pub level_reached : LevelIsWhatIsReached
-level_reached root ts t is l = (
-  λ c.
-      let r : InLevel root t = (l.exact t).0 c in
+level_reached root t is = (
+  λ r.
       let both : KeepsLength root r.0 × (act_all root r.0 ≡ t) = kept_from_reaches r.1 in
       record { moves = r.0; keeps = both.0; leads = both.1 },
-  λ r. (l.exact t).1 (subst (InLevel root) r.leads (in_level_from_kept is r.keeps)),
+  λ r. subst (InLevel root) r.leads (in_level_from_kept is r.keeps),
 )

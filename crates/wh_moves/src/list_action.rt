@@ -2,6 +2,7 @@
 ghost use Rattle.std.specs.Prelude.{◌≡◌, length, IfOk, IfErr, OnOk};
 ghost use Rattle.std.specs.List.{All};
 ghost use Rattle.wh_words.specs.Limits.{most_letters};
+ghost use Rattle.wh_words.specs.Tuples.{own_room};
 ghost use Rattle.wh_words.specs.Action as spec;
 ghost use Rattle.wh_moves.specs.Acts.{Fits, FitsOnTheWay, AreRoomy, IsActAllFault};
 
@@ -65,14 +66,15 @@ fn act_on(alloc: Global, end: &mut Tuple, list: &[Move]) -> Result<(), ActError>
 /// The tuple after a list of moves of its rank, the first move first, in memory of its own (Lyndon and Schupp, I.4). The
 /// empty list gives an equal tuple. `TooLong` comes exactly where a tuple on the way has more than 4,096 letters: its
 /// place is the number of the first move, counted from 1, after which there are more, and its length is their number. The
-/// memory taken is that of two tuples, however many moves there are.
+/// tuple has room for itself alone. The memory taken is that of two tuples, however many moves there are.
 pub fn act_all(alloc: Global, tuple: &Tuple, list: &[Move]) -> Result<Tuple, ActError>
     requires { All (λ m. m.rank ≡ tuple.now.plain.rank) list.now }
-    ensures acted { IfOk result (λ t. t.plain ≡ spec.act_all tuple.now.plain list.now) }
+    ensures acted { IfOk result (λ t. t ≡ own_room (spec.act_all tuple.now.plain list.now)) }
     ensures fits { IfOk result (λ _. FitsOnTheWay tuple.now.plain list.now) }
     ensures fault { IfErr result (IsActAllFault tuple.now.plain list.now) }
 {
     let mut end = roomy_copy(alloc, tuple)?;
     act_on(alloc, &mut end, list)?;
+    end.close_rooms();
     Ok(end)
 }

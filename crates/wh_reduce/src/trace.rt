@@ -45,15 +45,18 @@ fn shorten_fully(alloc: Global, end: &mut Tuple) -> Result<Vec<Move>, OutOfMemor
 }
 
 /// The trace of a tuple: its step, the step of the tuple after it, and so on, until the tuple is tight, so that no cut
-/// shortens it (Lyndon and Schupp, I.4; Roig, Ventura and Weil 2007). It takes memory for two tuples and the list of moves.
+/// shortens it (Lyndon and Schupp, I.4; Roig, Ventura and Weil 2007). The end has room for itself alone. It takes memory
+/// for two tuples and the list of moves.
 #[tactic(auto, using(crate::proofs::Traced::tight_is_flat))]
 pub fn reduce(alloc: Global, tuple: &Tuple) -> Result<Trace, OutOfMemory>
     ensures trace { IfOk result (λ r. IsCapacityTrace tuple.now.plain r.moves r.end.plain) }
     ensures tight { IfOk result (λ r. IsTight r.end.plain) }
     ensures flat { IfOk result (λ r. IsFlat r.end.plain) }
+    ensures rooms { IfOk result (λ r. r.end ≡ own_room r.end.plain) }
 {
     let mut end = tuple.copy(alloc)?;
     let moves = shorten_fully(alloc, &mut end)?;
+    end.close_rooms();
     Ok(Trace {
         moves: List::of(moves),
         end,

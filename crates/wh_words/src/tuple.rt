@@ -252,6 +252,15 @@ impl Tuple {
         })
     }
 
+    /// Keeps room for the tuple itself alone. What memory it has stays with it.
+    #[tactic(auto, using(crate::proofs::StoredWords::split_at_length, crate::proofs::StoredWords::split_at_total))]
+    pub fn close_rooms(&mut self)
+        ensures { self.new ≡ own_room self.old.plain }
+    {
+        self.room = self.letters.len();
+        self.word_room = self.ends.len();
+    }
+
     /// Takes all words out, makes the tuple one of a rank, and keeps its rooms.
     #[tactic(auto, using(crate::proofs::Storing::empty_tuple))]
     pub fn clear(&mut self, rank: Rank)

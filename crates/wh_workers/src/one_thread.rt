@@ -71,6 +71,8 @@ fn all_rows<L: Ledger>(
     requires room { HasRoomFor scratch.old root.now.plain }
     ensures rows { IfOk result (λ o. MatchOption o (HasMoreThan root.now.plain limit) (λ rows. All IsRow rows.items × IsWhole root.now.plain (map row_tuple rows.items) × (length rows.items ≤ limit))) }
     ensures steps { IfOk result (λ o. IfSome o (λ rows. steps.new ≡ steps.old + length rows.items)) }
+    ensures counted { steps.old ≤ steps.new }
+    ensures bounded { steps.new ≤ steps.old + limit }
 {
     known.meet(alloc, root)?;
     let mut rows = Vec::new(alloc);
@@ -86,7 +88,8 @@ fn all_rows<L: Ledger>(
 }
 
 /// The level of a root of rank 6 at most, or `Passed`, which comes exactly where it has more tuples than the limit. Each
-/// tuple is expanded once, so that a level that is answered took one step for each of its tuples (Lyndon and Schupp, I.4).
+/// tuple is expanded once, so that a level that is answered took one step for each of its tuples; whatever is answered, it
+/// took at most as many steps as the limit says (Lyndon and Schupp, I.4).
 pub fn explore_one<L: Ledger>(
     alloc: Global,
     root: &Tuple,
@@ -96,6 +99,8 @@ pub fn explore_one<L: Ledger>(
     requires { root.now.plain.rank ≤ most_level_rank }
     ensures explored { IfOk result (Explores root.now.plain limit) }
     ensures steps { IfOk result (CountsTuples steps.old steps.new) }
+    ensures counted { steps.old ≤ steps.new }
+    ensures bounded { steps.new ≤ steps.old + limit }
 {
     let mut scratch = Tuple::with_room(alloc, root.rank(), root.count(), root.length() as usize)?;
     let mut known = KnownTuples::new(alloc);
