@@ -1,5 +1,6 @@
 -- Images of a tuple in a list of tuples.
 use Rattle.std.specs.Prelude.{◌≡◌, ℕ, ◌*◌, List, Contains}
+use Rattle.wh_words.specs.Limits.{most_words, most_letters}
 use Rattle.wh_words.specs.Tuples.{TupleData, Tuple}
 use Rattle.wh_words.specs.Moves.{Move, cut_move}
 use Rattle.wh_words.specs.Moves.Kind.{swap, invert}
@@ -28,5 +29,5 @@ CutsStay ts t = (g : ℕ) → CutsStayWith ts t (2 * g)
 
 -- Every tuple fits in the rooms of this one.
 pub record IsRoomy (t : Tuple) : Type 0 where
-  pub letters : t.room ≡ 4096
-  pub words : t.word_room ≡ 64
+  pub letters : t.room ≡ most_letters
+  pub words : t.word_room ≡ most_words

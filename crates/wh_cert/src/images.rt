@@ -1,5 +1,6 @@
 //! The images of a tuple under its level moves, looked up in a list.
 ghost use Rattle.std.specs.Prelude.{◌≡◌, ◌↔◌, ◌*◌, ◌^◌, ◌≤◌, IsTrue, Contains, IfOk};
+ghost use Rattle.wh_words.specs.Limits.{most_rank, most_level_rank};
 ghost use Rattle.wh_words.specs.LetterSets.{in_set};
 ghost use Rattle.wh_words.specs.Tuples.{IsTuple};
 ghost use Rattle.wh_words.specs.Moves.{cut_move};
@@ -69,7 +70,7 @@ fn cut_stays(
     set: LetterSet,
     image: &mut Tuple,
 ) -> bool
-    requires rank { tuple.now.plain.rank ≤ 26 }
+    requires rank { tuple.now.plain.rank ≤ most_rank }
     requires keeps { cap (in_set set) tuple.now.plain ≡ deg mult tuple.now.plain }
     requires roomy { IsRoomy image.old }
     ensures stay { IsTrue result ↔ StaysIn listed.now tuple.now.plain (cut_move tuple.now.plain.rank mult set) }
@@ -94,7 +95,7 @@ fn cuts_stay_with(
     capacities: &[u32],
     image: &mut Tuple,
 ) -> bool
-    requires rank { tuple.now.plain.rank ≤ 26 }
+    requires rank { tuple.now.plain.rank ≤ most_rank }
     requires tuple { IsTuple tuple.now.plain }
     requires degree { degree ≡ deg mult tuple.now.plain }
     requires capacities { IsTable (tuple_capacity tuple.now.plain) (2 ^ (2 * tuple.now.plain.rank)) capacities.now }
@@ -145,7 +146,7 @@ pub(crate) fn images_are_in(
     image: &mut Tuple,
 ) -> Result<bool, OutOfMemory>
     requires tuple { IsTuple tuple.now.plain }
-    requires rank { tuple.now.plain.rank ≤ 6 }
+    requires rank { tuple.now.plain.rank ≤ most_level_rank }
     requires own { Contains listed.now tuple.now.plain }
     requires roomy { IsRoomy image.old }
     ensures are { IfOk result (λ b. IsTrue b ↔ ImagesAreIn listed.now tuple.now.plain) }

@@ -1,6 +1,7 @@
 -- The tuples of rows by their places, and the rooms in which their images are made.
 use Rattle.std.specs.Prelude.{◌≡◌, ℕ, ◌≤◌, List, length, get_or, Some, slice_get}
 use Rattle.std.specs.List.Sorted.{IsStrictlySortedBy}
+use Rattle.wh_words.specs.Limits.{most_letters}
 use Rattle.wh_words.specs.Tuples.{TupleData, Tuple, tuple_cmp, tuple_length}
 use Rattle.wh_sets.specs.TupleSets.{HaveSameTuples}
 
@@ -18,7 +19,7 @@ pub record AreRowNumbers (ts places : List TupleData) (numbers : List ℕ) : Typ
 pub record HasRoomsFor (into : Tuple) (t : TupleData) : Type 0 where
   pub letters : tuple_length t ≤ into.room
   pub words : length t.words ≤ into.word_room
-  pub within : into.room ≤ 4096
+  pub within : into.room ≤ most_letters
 
 -- The rooms stay.
 pub record KeepsRooms (old new : Tuple) : Type 0 where

@@ -1,6 +1,7 @@
 //! Sealing: rows are a whole level, or miss some tuples.
 ghost use Rattle.std.specs.Prelude.{◌≡◌, ◌≤◌, map, IfOk};
 ghost use Rattle.std.specs.List.{All};
+ghost use Rattle.wh_words.specs.Limits.{most_level_rank};
 ghost use Rattle.wh_words.specs.Levels.{InLevel, IsLevel};
 ghost use Rattle.wh_expand.specs.Rows.{IsRow, row_tuple};
 ghost use Rattle.wh_level.specs.Sealings.{Seals};
@@ -40,7 +41,7 @@ fn level_of(
     places: &TupleSet,
     parents: Vec<Option<(usize, Move)>>,
 ) -> Result<Level, OutOfMemory>
-    requires rank { root.now.plain.rank ≤ 6 }
+    requires rank { root.now.plain.rank ≤ most_level_rank }
     requires level { IsLevel root.now.plain places.now }
     requires parents { AreParents root.now.plain places.now parents.items }
     ensures root { IfOk result (λ level. level.root ≡ root.now.plain) }
@@ -62,7 +63,7 @@ fn seal_placed(
     places: &TupleSet,
     image: &mut Tuple,
 ) -> Result<Sealed, OutOfMemory>
-    requires rank { root.now.plain.rank ≤ 6 }
+    requires rank { root.now.plain.rank ≤ most_level_rank }
     requires rows { All IsRow rows.now }
     requires placing { IsPlacing (map row_tuple rows.now) places.now }
     requires within { All (λ r. InLevel root.now.plain (row_tuple r)) rows.now }
@@ -79,7 +80,7 @@ fn seal_placed(
 /// moves of its tuple, which is in the level of the root. `Closed` comes exactly where the tuples of the rows are the
 /// whole level (Lyndon and Schupp, I.4).
 pub fn seal(alloc: Global, root: &Tuple, rows: &[Row]) -> Result<Sealed, OutOfMemory>
-    requires rank { root.now.plain.rank ≤ 6 }
+    requires rank { root.now.plain.rank ≤ most_level_rank }
     requires rows { All IsRow rows.now }
     requires within { All (λ r. InLevel root.now.plain (row_tuple r)) rows.now }
     ensures { IfOk result (Seals root.now.plain (map row_tuple rows.now)) }

@@ -1,6 +1,7 @@
 //! Levels: the level moves of a tuple, the rows of a level, its tree and its first walks.
 ghost use Rattle.std.specs.Prelude.{◌≡◌, ◌<◌, ◌≤◌, length, IfOk};
 ghost use Rattle.std.specs.List.{All};
+ghost use Rattle.wh_words.specs.Limits.{most_level_rank};
 ghost use Rattle.wh_words.specs.Levels.{InLevel};
 ghost use Rattle.wh_expand.specs.Rows.{IsRow, row_tuple};
 
@@ -18,7 +19,7 @@ use wh_workers::{Explored, explore_one};
 
 /// The row of a tuple, by a counter over a blank.
 fn row_over<L: Ledger>(alloc: Global, tuple: &Tuple, blank: Blank) -> Result<Row, OutOfMemory>
-    requires rank { tuple.now.plain.rank ≤ 6 }
+    requires rank { tuple.now.plain.rank ≤ most_level_rank }
     requires name { blank.name ≡ L.name }
     requires parts { blank.parts ≡ L.parts }
     requires some { 0 < blank.parts }
@@ -31,7 +32,7 @@ fn row_over<L: Ledger>(alloc: Global, tuple: &Tuple, blank: Blank) -> Result<Row
 
 /// The row of a tuple.
 fn row(alloc: Global, tuple: &Tuple) -> Result<Row, OutOfMemory>
-    requires { tuple.now.plain.rank ≤ 6 }
+    requires { tuple.now.plain.rank ≤ most_level_rank }
     ensures row { IfOk result IsRow }
     ensures own { IfOk result (λ r. row_tuple r ≡ tuple.now.plain) }
 {
@@ -45,7 +46,7 @@ fn explored_over<L: Ledger>(
     limit: u32,
     blank: Blank,
 ) -> Result<Explored, OutOfMemory>
-    requires rank { root.now.plain.rank ≤ 6 }
+    requires rank { root.now.plain.rank ≤ most_level_rank }
     requires name { blank.name ≡ L.name }
     requires parts { blank.parts ≡ L.parts }
     requires some { 0 < blank.parts }
@@ -56,14 +57,14 @@ fn explored_over<L: Ledger>(
 
 /// What exploring the level of a root answers.
 fn explored(alloc: Global, root: &Tuple, limit: u32) -> Result<Explored, OutOfMemory>
-    requires { root.now.plain.rank ≤ 6 }
+    requires { root.now.plain.rank ≤ most_level_rank }
 {
     explored_over::<Brand>(alloc, root, limit, Blank::new(1))
 }
 
 /// The tuple of a problem text of rank 6 at most.
 fn low_tuple(alloc: Global, text: &str) -> Result<Tuple, Fail>
-    ensures { IfOk result (λ t. t.plain.rank ≤ 6) }
+    ensures { IfOk result (λ t. t.plain.rank ≤ most_level_rank) }
 {
     let tuple = tuple(alloc, text)?;
     if tuple.rank().get() > 6 {
@@ -115,7 +116,7 @@ fn a_commutator_has_fifteen_level_moves(rt: HostRuntime) -> Result<(), Fail> {
 
 /// The rows of a tuple and of its image under its first level move.
 fn first_rows(alloc: Global, root: &Tuple) -> Result<[Row; 2], Fail>
-    requires { root.now.plain.rank ≤ 6 }
+    requires { root.now.plain.rank ≤ most_level_rank }
     ensures rows { IfOk result (λ r. All IsRow r.items) }
     ensures within { IfOk result (λ r. All (λ q. InLevel root.now.plain (row_tuple q)) r.items) }
 {

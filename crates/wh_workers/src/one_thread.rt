@@ -4,6 +4,7 @@ ghost use Rattle.std.specs.List.{All, IsDistinct};
 ghost use Rattle.std.specs.Bool.{MatchBool};
 ghost use Rattle.std.specs.Option.{MatchOption};
 ghost use Rattle.std.specs.Ordering.{eq_by_cmp};
+ghost use Rattle.wh_words.specs.Limits.{most_level_rank};
 ghost use Rattle.wh_words.specs.Tuples.{tuple_cmp};
 ghost use Rattle.wh_words.specs.Levels.{InLevel, HasMoreThan};
 ghost use Rattle.wh_expand.specs.Rows.{IsRow, row_tuple};
@@ -53,7 +54,7 @@ fn meet_images(
 /// The level whose rows these are.
 #[tactic(auto, using(crate::proofs::Wholes::whole_within, crate::proofs::Wholes::nothing_missed, crate::proofs::Wholes::whole_count))]
 fn closed(alloc: Global, root: &Tuple, rows: &[Row]) -> Result<Explored, OutOfMemory>
-    requires rank { root.now.plain.rank ≤ 6 }
+    requires rank { root.now.plain.rank ≤ most_level_rank }
     requires rows { All IsRow rows.now }
     requires whole { IsWhole root.now.plain (map row_tuple rows.now) }
     ensures explored { (limit : ℕ) → length rows.now ≤ limit → IfOk result (Explores root.now.plain limit) }
@@ -75,7 +76,7 @@ fn all_rows<L: Ledger>(
     scratch: &mut Tuple,
     steps: &mut Steps<L>,
 ) -> Result<Option<Vec<Row>>, OutOfMemory>
-    requires rank { root.now.plain.rank ≤ 6 }
+    requires rank { root.now.plain.rank ≤ most_level_rank }
     requires none_known { length known.old ≡ 0 }
     requires room { HasRoomFor scratch.old root.now.plain }
     ensures rows { IfOk result (λ o. MatchOption o (HasMoreThan root.now.plain limit) (λ rows. All IsRow rows.items × IsWhole root.now.plain (map row_tuple rows.items) × (length rows.items ≤ limit))) }
@@ -105,7 +106,7 @@ pub fn explore_one<L: Ledger>(
     limit: u32,
     steps: &mut Steps<L>,
 ) -> Result<Explored, OutOfMemory>
-    requires { root.now.plain.rank ≤ 6 }
+    requires { root.now.plain.rank ≤ most_level_rank }
     ensures explored { IfOk result (Explores root.now.plain limit) }
     ensures steps { IfOk result (CountsTuples steps.old steps.new) }
     ensures counted { steps.old ≤ steps.new }
