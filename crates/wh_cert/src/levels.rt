@@ -3,16 +3,17 @@ ghost use Rattle.std.specs.Prelude.{◌↔◌, ◌+◌, ◌<◌, ◌≤◌, List
 ghost use Rattle.std.specs.List.{All};
 ghost use Rattle.wh_words.specs.Limits.{most_level_rank};
 ghost use Rattle.wh_words.specs.Tuples.{TupleData};
+ghost use Rattle.wh_sets.specs.TupleSets.{HaveSameTuples};
 ghost use Rattle.wh_text.specs.AnswerData.{plains};
 ghost use Rattle.wh_cert.specs.Demands.{Rises, rises, has_height, is_absent, is_closed, tuple_at, asked_below, at_asked, level_asked};
-ghost use Rattle.wh_cert.specs.Listings.{HaveSameTuples, IsRoomy};
+ghost use Rattle.wh_cert.specs.Listings.{IsRoomy};
 ghost use Rattle.wh_cert.specs.Judged.{Judges};
 
 use crate::checked::Rule;
 use crate::images::images_are_in;
-use crate::listed::Listed;
 use crate::stop::{Stop, ask};
 use std::alloc::Global;
+use wh_sets::TupleSet;
 use wh_words::{MOST_LETTERS, MOST_WORDS, OutOfMemory, Tuple};
 
 /// Whether a tuple is greater than the one before it, if any.
@@ -46,7 +47,7 @@ fn judge_tuple(
 fn judge_images(
     alloc: Global,
     place: usize,
-    listed: &Listed,
+    listed: &TupleSet,
     tuple: &Tuple,
     image: &mut Tuple,
 ) -> Result<(), Stop>
@@ -76,7 +77,7 @@ fn judge_tuples(
     root: &Tuple,
     second: &Tuple,
     tuples: &[Tuple],
-    listed: &Listed,
+    listed: &TupleSet,
 ) -> Result<(), Stop>
     requires ranks { All (λ t. t.plain.rank ≤ most_level_rank) tuples.now }
     requires same { HaveSameTuples listed.now (plains tuples.now) }
@@ -103,7 +104,7 @@ pub(crate) fn judge_level(
     requires low { place < 1000 }
     ensures { Judges (level_asked place root.now.plain second.now.plain (plains tuples.now)) result }
 {
-    let listed = Listed::of(alloc, tuples)?;
+    let listed = TupleSet::of(alloc, tuples)?;
     ask(place, Rule::Root, listed.has(root))?;
     judge_tuples(alloc, place + 1, root, second, tuples, &listed)
 }

@@ -10,7 +10,7 @@ use Rattle.std.specs.Ordering.{is_lt, is_gt, nat_cmp, ordering_then, MatchOrderi
 use Rattle.std.specs.declared.cmp.Ordering.{Ordering}
 use Rattle.std.specs.declared.cmp.Ordering.TheVariants.{Less, Equal, Greater}
 use Rattle.wh_words.specs.Moves.{Move, move_cmp}
-use Rattle.wh_moves.specs.MoveOrders.{move_cmp_total, same_move, then_nothing, then_equal}
+use Rattle.wh_moves.specs.MoveOrders.{move_cmp_total, same_move, then_nothing}
 use Rattle.wh_level.specs.Searches.{walk_cmp, NoLater, Earlier}
 
 -- ---- the order of walks is total

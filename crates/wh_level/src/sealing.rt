@@ -6,15 +6,16 @@ ghost use Rattle.wh_words.specs.Levels.{InLevel, IsLevel};
 ghost use Rattle.wh_expand.specs.Rows.{IsRow, row_tuple};
 ghost use Rattle.wh_level.specs.Sealings.{Seals};
 ghost use Rattle.wh_level.specs.Trees.{AreParents, IsClosed};
-ghost use Rattle.wh_level.specs.PlacedTuples.{HasRoomsFor, IsOrderedPlacing, tuples_of};
+ghost use Rattle.wh_level.specs.PlacedTuples.{HasRoomsFor, IsPlacing};
 
 use crate::level::Level;
 use crate::missing::missing;
-use crate::placing::{Places, placed};
+use crate::placing::placed;
 use crate::search::first_parents;
 use std::alloc::Global;
 use wh_expand::Row;
 use wh_moves::Move;
+use wh_sets::TupleSet;
 use wh_words::{List, OutOfMemory, Tuple};
 
 /// Whether rows are a whole level.
@@ -37,14 +38,14 @@ fn blank(alloc: Global, root: &Tuple) -> Result<Tuple, OutOfMemory>
 fn level_of(
     alloc: Global,
     root: &Tuple,
-    places: &Places,
+    places: &TupleSet,
     parents: Vec<Option<(usize, Move)>>,
 ) -> Result<Level, OutOfMemory>
     requires rank { root.now.plain.rank ≤ most_level_rank }
-    requires level { IsLevel root.now.plain (tuples_of places.now) }
-    requires parents { AreParents root.now.plain (tuples_of places.now) parents.items }
+    requires level { IsLevel root.now.plain places.now }
+    requires parents { AreParents root.now.plain places.now parents.items }
     ensures root { IfOk result (λ level. level.root ≡ root.now.plain) }
-    ensures tuples { IfOk result (λ level. level.tuples ≡ tuples_of places.now) }
+    ensures tuples { IfOk result (λ level. level.tuples ≡ places.now) }
     ensures closed { IfOk result IsClosed }
 {
     Ok(Level {
@@ -59,12 +60,12 @@ fn seal_placed(
     alloc: Global,
     root: &Tuple,
     rows: &[Row],
-    places: &Places,
+    places: &TupleSet,
     image: &mut Tuple,
 ) -> Result<Sealed, OutOfMemory>
     requires rank { root.now.plain.rank ≤ most_level_rank }
     requires rows { All IsRow rows.now }
-    requires placing { IsOrderedPlacing (map row_tuple rows.now) places.now }
+    requires placing { IsPlacing (map row_tuple rows.now) places.now }
     requires within { All (λ r. InLevel root.now.plain (row_tuple r)) rows.now }
     requires rooms { HasRoomsFor image.old root.now.plain }
     ensures { IfOk result (Seals root.now.plain (map row_tuple rows.now)) }

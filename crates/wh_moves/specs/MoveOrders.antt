@@ -8,6 +8,7 @@ use Rattle.std.specs.FinMap.{nat_cmp-IsAntisymmetric}
 use Rattle.std.specs.Ordering.{is_lt, is_gt, nat_cmp, ordering_then}
 use Rattle.std.specs.declared.cmp.Ordering.{Ordering}
 use Rattle.std.specs.declared.cmp.Ordering.TheVariants.{Less, Equal, Greater}
+use Rattle.wh_words.specs.TupleTies.{then_equal}
 use Rattle.wh_words.specs.Moves.{Kind, Move, kind_cmp, move_cmp}
 use Rattle.wh_words.specs.Moves.Kind.{swap, invert, cut}
 
@@ -39,11 +40,6 @@ kind_cmp_total = subst (λ (R : Kind → Kind → Ordering). IsTotalOrder R) (λ
 
 pub move_cmp_total : IsTotalOrder move_cmp
 move_cmp_total = then_total (on_total (λ (m : Move). m.rank) nat_cmp_total) (on_total (λ (m : Move). m.kind) kind_cmp_total)
-
-pub then_equal : (o p : Ordering) → ordering_then o p ≡ Equal → (o ≡ Equal) × (p ≡ Equal)
-then_equal Less p e = absurd (true≢false (ap is_lt e))
-then_equal Equal p e = (refl, e)
-then_equal Greater p e = absurd (true≢false (ap is_gt e))
 
 same_kind : (k l : Kind) → kind_cmp k l ≡ Equal → k ≡ l
 same_kind (swap j) (swap k) e = ap swap (nat_cmp-IsAntisymmetric j k e)
