@@ -18,7 +18,8 @@ use Rattle.wh_text.specs.declared.answer.Verdict.TheVariants.{Yes, NoLength, NoL
 use Rattle.wh_text.specs.declared.answer.Answer.TheVariants as answers
 use Rattle.wh_text.specs.Problems.ProblemData.{reduce, decide}
 use Rattle.wh_text.specs.AnswerData.{plains}
-use Rattle.wh_text.specs.FieldTexts.{words_text, number_text}
+use Rattle.wh_fields.specs.TupleFields.{words_text}
+use Rattle.wh_lines.specs.Numbers.{number_text}
 use Rattle.wh_text.specs.AnswerTexts.{rank_text, side_text, at_text, level_text, verdict_text, answer_text}
 use Rattle.wh_text.specs.Statuses.{verdict_status}
 use Rattle.wh_answer.specs.Answers.{IsSideOf, EndApart, Decides}

@@ -12,9 +12,10 @@ use Rattle.wh_graph.proofs.Agreement.{traces_agree}
 use Rattle.wh_reduce.specs.FlowLists.{AreFlows}
 use Rattle.wh_reduce.proofs.Certificates.{flows_unique}
 use Rattle.wh_text.specs.declared.answer.Side.{Side}
-use Rattle.wh_text.specs.Spellings.{letter_text}
-use Rattle.wh_text.specs.FlowTexts.{texts_below, pair_field, pairs_text, flow_value, flow_text, flows_text}
-use Rattle.wh_text.specs.FieldTexts.{words_text, moves_text}
+use Rattle.wh_fields.specs.Words.{letter_text}
+use Rattle.wh_fields.specs.FlowFields.{texts_below, pair_field, pairs_text, flow_value, flow_text, flows_text}
+use Rattle.wh_fields.specs.TupleFields.{words_text}
+use Rattle.wh_fields.specs.MoveFields.{moves_text}
 use Rattle.wh_text.specs.AnswerTexts.{side_text}
 use Rattle.wh_answer.specs.Answers.{IsSideOf}
 use Rattle.wh_answer.proofs.Verdicts.{trace_rank}

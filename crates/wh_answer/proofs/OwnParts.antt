@@ -24,8 +24,10 @@ use Rattle.wh_graph.proofs.EdgeCounts.{one, count-cons, edges_join, edges_length
 use Rattle.wh_reduce.specs.FlowLists.{AreFlows}
 use Rattle.wh_reduce.proofs.Traced.{step_shortens}
 use Rattle.wh_level.proofs.Walks.{reached_rank, reached_words, reached_tuple}
-use Rattle.wh_text.proofs.Equations.{both_true}
-use Rattle.wh_text.specs.ReadingBack.{IsMoveOf, IsTupleOf, IsFlowOf}
+use Rattle.wh_lines.proofs.Equations.{both_true}
+use Rattle.wh_fields.specs.MoveFields.{IsMoveOf}
+use Rattle.wh_fields.specs.TupleFields.{IsTupleOf}
+use Rattle.wh_fields.specs.FlowFields.{IsFlowOf}
 use Rattle.wh_answer.proofs.Inverses.{step_move, step_rank, inverse_list-cons}
 use Rattle.wh_answer.proofs.Sides.{flows_have_lines}
 

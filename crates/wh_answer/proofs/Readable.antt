@@ -16,12 +16,13 @@ use Rattle.wh_text.specs.declared.answer.Verdict.{Verdict}
 use Rattle.wh_text.specs.declared.answer.Verdict.TheVariants.{Yes}
 use Rattle.wh_text.specs.declared.answer.Answer.TheVariants as answers
 use Rattle.wh_text.specs.Problems.ProblemData.{reduce, decide}
-use Rattle.wh_text.specs.FieldTexts.{words_text}
+use Rattle.wh_fields.specs.TupleFields.{words_text, IsTupleOf}
 use Rattle.wh_text.specs.AnswerTexts.{rank_text, side_text, level_text, reduced_text, decided_text, verdict_text, answer_text}
 use Rattle.wh_text.specs.AnswerData.{plains, side_of, verdict_of, answer_of}
 use Rattle.wh_text.specs.AnswerData.AnswerData.{decide as decided}
-use Rattle.wh_text.specs.ReadingBack.{IsMoveOf, IsTupleOf, IsFlowOf, IsVerdictOf}
-use Rattle.wh_text.specs.ReadingBack.{IsSideOf as IsSideOfRank}
+use Rattle.wh_fields.specs.MoveFields.{IsMoveOf}
+use Rattle.wh_fields.specs.FlowFields.{IsFlowOf}
+use Rattle.wh_text.specs.ReadingBack.{IsVerdictOf, IsSideOf as IsSideOfRank}
 use Rattle.wh_answer.specs.Answers.{IsSideOf, Decides}
 use Rattle.wh_answer.specs.Answers.Decides.{other_lengths, one_end, too_long, too_many, joined, off_level}
 use Rattle.wh_answer.specs.Certified.{IsDecided, IsReadable}

@@ -14,12 +14,14 @@ use Rattle.wh_words.specs.Moves.{Move, Kind, IsKind}
 use Rattle.wh_words.specs.Moves.Kind.{swap, invert, cut}
 use Rattle.wh_flow.specs.Nets.{cell}
 use Rattle.wh_text.specs.declared.answer.Side.{Side}
-use Rattle.wh_text.specs.Spellings.{letter_text}
-use Rattle.wh_text.specs.FieldTexts.{set_below, kind_text, word_field, move_field, words_text, moves_text, number_text}
-use Rattle.wh_text.specs.FlowTexts.{texts_below, pair_field, pairs_text, flow_value, flow_text, flows_text}
+use Rattle.wh_fields.specs.Words.{letter_text}
+use Rattle.wh_fields.specs.MoveFields.{set_below, kind_text, move_field, moves_text, IsMoveOf}
+use Rattle.wh_fields.specs.TupleFields.{word_field, words_text}
+use Rattle.wh_lines.specs.Numbers.{number_text}
+use Rattle.wh_fields.specs.FlowFields.{texts_below, pair_field, pairs_text, flow_value, flow_text, flows_text, IsFlowOf}
 use Rattle.wh_text.specs.AnswerTexts.{side_text, at_text, level_text}
 use Rattle.wh_text.specs.AnswerData.{plains, side_of}
-use Rattle.wh_text.specs.ReadingBack.{IsMoveOf, IsFlowOf, IsSideOf}
+use Rattle.wh_text.specs.ReadingBack.{IsSideOf}
 
 -- ---- texts one after another
 -- So many texts of at most c bytes each.

@@ -1,5 +1,6 @@
 -- Answers as certificates: their text can be read back, and is valid; and what valid ones show.
 use Rattle.std.specs.Prelude.{◌≡◌, ◌≢◌, ◌≤◌, length}
+use Rattle.wh_words.specs.Limits.{most_rank}
 use Rattle.wh_words.specs.Tuples.{TupleData, IsTuple, tuple_length}
 use Rattle.wh_words.specs.Action.{act_all}
 use Rattle.wh_words.specs.Traces.{IsFlat}
@@ -39,8 +40,8 @@ EndsAreTuples (undecided bound) = Unit {0}
 
 -- The tuples of an answer and the ends of its sides are tuples, and the rank of its first tuple is at most 26.
 abbrev pub HasTuples : AnswerData → Type 0
-HasTuples (reduce t s) = IsTuple t × (t.rank ≤ 26) × IsTuple s.end
-HasTuples (decide s t v) = IsTuple s × IsTuple t × (s.rank ≤ 26) × EndsAreTuples v
+HasTuples (reduce t s) = IsTuple t × (t.rank ≤ most_rank) × IsTuple s.end
+HasTuples (decide s t v) = IsTuple s × IsTuple t × (s.rank ≤ most_rank) × EndsAreTuples v
 
 -- The trace of a side carries a tuple to the end of the side, which no cut shortens.
 pub record LeadsToFlatEnd (t : TupleData) (s : SideData) : Type 0 where

@@ -1,6 +1,7 @@
 //! Judging a certificate.
 ghost use Rattle.std.specs.Prelude.{◌≡◌, ◌↔◌, ◌+◌, ◌*◌, ◌<◌, ◌≤◌, [], ◌∷◌, ◌++◌, length, get_or, IsTrue, IfOk};
 ghost use Rattle.std.specs.List.{All};
+ghost use Rattle.wh_words.specs.Limits.{most_level_rank};
 ghost use Rattle.wh_words.specs.Tuples.{TupleData};
 ghost use Rattle.wh_text.specs.AnswerData.{plains, side_of, verdict_of, answer_of, certificate_of};
 ghost use Rattle.wh_text.specs.Numberings.{IsNumbered, IsSideOfRank, IsVerdictOfRank, IsAnswerOfOneRank, verdict_flows, flow_lines};
@@ -147,7 +148,7 @@ fn judge_no_level(
     requires a { IsSideOfRank first.now.plain.rank (side_of a.now) }
     requires b { IsSideOfRank first.now.plain.rank (side_of b.now) }
     requires heads { 2 * first.now.plain.rank ≤ length heads.now }
-    requires ranks { All (λ t. t.plain.rank ≤ 6) tuples.now }
+    requires ranks { All (λ t. t.plain.rank ≤ most_level_rank) tuples.now }
     ensures { Judges (sides_asked 5 first.now.plain.rank heads.now first.now.plain second.now.plain (side_of a.now) (side_of b.now) lengths_agree ++ level_asked (5 + 2 * spec.side_lines first.now.plain.rank) a.now.end.plain b.now.end.plain (plains tuples.now)) result }
 {
     let met = a.end.length() == b.end.length();

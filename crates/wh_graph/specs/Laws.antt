@@ -1,6 +1,7 @@
 -- What is known of capacities, degrees and lengths, as statements that contracts name, after Lyndon and Schupp, I.4.
 use Rattle.std.specs.Prelude.{◌≡◌, ◌≢◌, ℕ, ◌+◌, ◌*◌, ◌<◌, ◌≤◌, ◌==◌, ◌&&◌, ◌||◌, Bool, not, List, length, count_by, ◌↔◌}
 use Rattle.std.specs.List.{All, sum_by}
+use Rattle.wh_words.specs.Limits.{most_rank}
 use Rattle.wh_words.specs.Letters.{inverse_letter}
 use Rattle.wh_words.specs.LetterSets.{in_set}
 use Rattle.wh_words.specs.Tuples.{TupleData, IsTuple, tuple_length}
@@ -78,4 +79,4 @@ StepsAgree = (t : TupleData) (m : Move) → IsTuple t → IsStep t m ↔ IsCapac
 
 -- The trace by lengths is the trace by capacities.
 abbrev pub TracesAgree : Type 0
-TracesAgree = (t end : TupleData) (ms : List Move) → IsTuple t → t.rank ≤ 26 → IsTrace t ms end ↔ IsCapacityTrace t ms end
+TracesAgree = (t end : TupleData) (ms : List Move) → IsTuple t → t.rank ≤ most_rank → IsTrace t ms end ↔ IsCapacityTrace t ms end

@@ -1,19 +1,21 @@
 //! Sealing: rows are a whole level, or miss some tuples.
 ghost use Rattle.std.specs.Prelude.{◌≡◌, ◌≤◌, map, IfOk};
 ghost use Rattle.std.specs.List.{All};
+ghost use Rattle.wh_words.specs.Limits.{most_level_rank};
 ghost use Rattle.wh_words.specs.Levels.{InLevel, IsLevel};
 ghost use Rattle.wh_expand.specs.Rows.{IsRow, row_tuple};
 ghost use Rattle.wh_level.specs.Sealings.{Seals};
 ghost use Rattle.wh_level.specs.Trees.{AreParents, IsClosed};
-ghost use Rattle.wh_level.specs.PlacedTuples.{HasRoomsFor, IsOrderedPlacing, tuples_of};
+ghost use Rattle.wh_level.specs.PlacedTuples.{HasRoomsFor, IsPlacing};
 
 use crate::level::Level;
 use crate::missing::missing;
-use crate::placing::{Places, placed};
+use crate::placing::placed;
 use crate::search::first_parents;
 use std::alloc::Global;
 use wh_expand::Row;
 use wh_moves::Move;
+use wh_sets::TupleSet;
 use wh_words::{List, OutOfMemory, Tuple};
 
 /// Whether rows are a whole level.
@@ -36,14 +38,14 @@ fn blank(alloc: Global, root: &Tuple) -> Result<Tuple, OutOfMemory>
 fn level_of(
     alloc: Global,
     root: &Tuple,
-    places: &Places,
+    places: &TupleSet,
     parents: Vec<Option<(usize, Move)>>,
 ) -> Result<Level, OutOfMemory>
-    requires rank { root.now.plain.rank ≤ 6 }
-    requires level { IsLevel root.now.plain (tuples_of places.now) }
-    requires parents { AreParents root.now.plain (tuples_of places.now) parents.items }
+    requires rank { root.now.plain.rank ≤ most_level_rank }
+    requires level { IsLevel root.now.plain places.now }
+    requires parents { AreParents root.now.plain places.now parents.items }
     ensures root { IfOk result (λ level. level.root ≡ root.now.plain) }
-    ensures tuples { IfOk result (λ level. level.tuples ≡ tuples_of places.now) }
+    ensures tuples { IfOk result (λ level. level.tuples ≡ places.now) }
     ensures closed { IfOk result IsClosed }
 {
     Ok(Level {
@@ -58,12 +60,12 @@ fn seal_placed(
     alloc: Global,
     root: &Tuple,
     rows: &[Row],
-    places: &Places,
+    places: &TupleSet,
     image: &mut Tuple,
 ) -> Result<Sealed, OutOfMemory>
-    requires rank { root.now.plain.rank ≤ 6 }
+    requires rank { root.now.plain.rank ≤ most_level_rank }
     requires rows { All IsRow rows.now }
-    requires placing { IsOrderedPlacing (map row_tuple rows.now) places.now }
+    requires placing { IsPlacing (map row_tuple rows.now) places.now }
     requires within { All (λ r. InLevel root.now.plain (row_tuple r)) rows.now }
     requires rooms { HasRoomsFor image.old root.now.plain }
     ensures { IfOk result (Seals root.now.plain (map row_tuple rows.now)) }
@@ -78,7 +80,7 @@ fn seal_placed(
 /// moves of its tuple, which is in the level of the root. `Closed` comes exactly where the tuples of the rows are the
 /// whole level (Lyndon and Schupp, I.4).
 pub fn seal(alloc: Global, root: &Tuple, rows: &[Row]) -> Result<Sealed, OutOfMemory>
-    requires rank { root.now.plain.rank ≤ 6 }
+    requires rank { root.now.plain.rank ≤ most_level_rank }
     requires rows { All IsRow rows.now }
     requires within { All (λ r. InLevel root.now.plain (row_tuple r)) rows.now }
     ensures { IfOk result (Seals root.now.plain (map row_tuple rows.now)) }

@@ -1,6 +1,6 @@
 -- The trace of a tuple, step by step.
-use Rattle.std.proofs.Common.{◌≡◌, ◌*◌, ◌<◌, ◌≤◌, List, [], ◌∷◌, ◌++◌, length, sym, ap, ◌∙◌, subst, arith, append_assoc, append-nil}
-use Rattle.wh_words.specs.Tuples.{TupleData, Tuple, IsTuple, tuple_length, in_rooms_of}
+use Rattle.std.proofs.Common.{◌≡◌, ◌*◌, ◌<◌, ◌≤◌, List, [], ◌∷◌, ◌++◌, length, refl, sym, ap, ◌∙◌, subst, arith, append_assoc, append-nil}
+use Rattle.wh_words.specs.Tuples.{TupleData, Tuple, IsTuple, tuple_length, own_room, in_rooms_of}
 use Rattle.wh_words.specs.Moves.{Move}
 use Rattle.wh_words.specs.Action.{act, substitute}
 use Rattle.wh_words.specs.CyclicWords.{cyclic_word}
@@ -40,6 +40,17 @@ pub record AreRoomy (t : TupleData) (now spare : Tuple) : Type 0 where
   pub word_room : now.word_room ≡ length t.words
   pub spare_room : spare.room ≡ tuple_length t
   pub spare_word_room : spare.word_room ≡ length t.words
+
+pub roomy_start : (now spare : Tuple) → now ≡ own_room now.plain → spare ≡ now → AreRoomy now.plain now spare
+roomy_start now spare own same = record {
+  rank = refl;
+  count = refl;
+  short = omega arith;
+  room = ap (λ (u : Tuple). u.room) own;
+  word_room = ap (λ (u : Tuple). u.word_room) own;
+  spare_room = ap (λ (u : Tuple). u.room) (same ∙ own);
+  spare_word_room = ap (λ (u : Tuple). u.word_room) (same ∙ own);
+}
 
 pub step_shortens : (t : TupleData) (m : Move) → IsTuple t → IsCapacityStep t m → tuple_length (act t m) < tuple_length t
 step_shortens t m is s =

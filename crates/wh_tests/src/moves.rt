@@ -57,6 +57,9 @@ fn images_are_those_of_the_generators(rt: HostRuntime) -> Result<(), Fail> {
     image_is(&rt, alloc, &made, 2, "ca")?;
     let swap = Move::swap(rank, 1).ok_or("swap")?;
     assert!(rt; made != images(alloc, &swap)?);
+    assert!(rt; !made.is_identity());
+    let alone = Move::cut(rank, letter(b'a')?, LetterSet::of_bits(1)).ok_or("cut")?;
+    assert!(rt; images(alloc, &alone)?.is_identity());
     Ok(())
 }
 

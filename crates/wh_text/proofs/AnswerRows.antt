@@ -1,37 +1,12 @@
 -- The rows of the text of an answer: for the law on printed answers.
-use Rattle.std.proofs.Common.{ℕ, ◌+◌, ◌*◌, ◌==◌, cond, List, [], ◌∷◌, ◌++◌, length, map}
-use Rattle.std.specs.Prelude.{◌||◌, codes, decimal}
+use Rattle.std.proofs.Common.{ℕ, ◌+◌, ◌*◌, List, [], ◌∷◌, ◌++◌, length}
+use Rattle.std.specs.Prelude.{codes}
 use Rattle.wh_words.specs.Tuples.{TupleData}
-use Rattle.wh_words.specs.Moves.{Move}
-use Rattle.wh_flow.specs.Nets.{cell}
-use Rattle.wh_text.specs.Spellings.{letter_text, word_text}
-use Rattle.wh_text.specs.FieldTexts.{kind_text}
-use Rattle.wh_text.specs.FlowTexts.{flow_value}
 use Rattle.wh_text.specs.AnswerData.{SideData, VerdictData, AnswerData}
 use Rattle.wh_text.specs.AnswerData.VerdictData.{yes, no_length, no_level, undecided}
 use Rattle.wh_text.specs.AnswerData.AnswerData.{reduce, decide}
-use Rattle.wh_text.proofs.PrintedRows.{Row}
-use Rattle.wh_text.proofs.ItemRuns.{items_from}
-
--- ---- rows of all commands
-abbrev pub words_row : List ℕ → List (List ℕ) → Row
-words_row keyword ws = record { keyword = keyword; fields = map word_text ws }
-
-abbrev pub moves_row : List ℕ → List Move → Row
-moves_row keyword ms = record { keyword = keyword; fields = map (λ m. kind_text m.kind) ms }
-
-abbrev pub number_row : List ℕ → ℕ → Row
-number_row keyword n = record { keyword = keyword; fields = decimal n ∷ [] }
-
--- The field of what flows from x to y, where something does.
-abbrev pub pair_item : List ℕ → ℕ → ℕ → List (List ℕ)
-pair_item f x y = cond ((x == y) || (cell f x y == 0)) [] ((letter_text x ∷ letter_text y ∷ codes ":" ++ decimal (cell f x y)) ∷ [])
-
-abbrev pub pair_items : ℕ → List ℕ → List (List ℕ)
-pair_items n f = items_from (λ x. items_from (pair_item f x) 0 (2 * n)) 0 (2 * n)
-
-abbrev pub flow_row : ℕ → ℕ → List ℕ → Row
-flow_row n a f = record { keyword = codes "flow"; fields = (letter_text a ∷ []) ∷ decimal (flow_value f a) ∷ pair_items n f }
+use Rattle.wh_lines.proofs.PrintedRows.{Row, number_row}
+use Rattle.wh_fields.proofs.FieldRows.{flow_row, moves_row, words_row}
 
 -- The rows of flows, the first of them of generator g.
 abbrev pub flow_rows : ℕ → ℕ → List (List ℕ) → List Row

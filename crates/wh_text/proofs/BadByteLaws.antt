@@ -8,17 +8,19 @@ use Rattle.std.proofs.lemmas.Bool.{cases_Bool, cond-true, cond-false}
 use Rattle.wh_words.specs.Tuples.{TupleData}
 use Rattle.wh_text.specs.declared.command.Command.{Command}
 use Rattle.wh_text.specs.declared.command.Command.TheVariants as commands
-use Rattle.wh_text.specs.declared.read_error.ReadError.{ReadError}
-use Rattle.wh_text.specs.declared.read_error.ReadError.TheVariants as errors
-use Rattle.wh_text.specs.Lines.{Field, lines, is_allowed, bad_at, is_comment, fields}
-use Rattle.wh_text.specs.Readings.{◌>>=◌}
-use Rattle.wh_text.specs.Numbers.{number}
-use Rattle.wh_text.specs.Spellings.{are, letter_of, letter_at, letters_at, word_at}
-use Rattle.wh_text.specs.TupleLines.{items_at, words_at, short_tuple, tuple_at}
-use Rattle.wh_text.specs.Problems.{Sheet, ProblemData, blank_sheet, most_bytes, greatest_rank, rank_at, rank_number, allowed_rank, kept_line, line_of_fields, line_at, lines_at, decide, one_tuple, two_tuples, decide_both, problem_with, whole, problem}
-use Rattle.wh_text.specs.Laws.{IsClean, NamesTheFirstBadByte}
-use Rattle.wh_text.proofs.Equations.{bind_err}
-use Rattle.wh_text.proofs.ToldLines.{good_line, line_good, bad_clean}
+use Rattle.wh_lines.specs.declared.read_error.ReadError.{ReadError}
+use Rattle.wh_lines.specs.declared.read_error.ReadError.TheVariants as errors
+use Rattle.wh_lines.specs.Lines.{Field, lines, is_allowed, bad_at, is_comment, fields, are}
+use Rattle.wh_lines.specs.Readings.{◌>>=◌, items_at}
+use Rattle.wh_lines.specs.Numbers.{number}
+use Rattle.wh_fields.specs.Words.{letter_of, letter_at, letters_at, word_at}
+use Rattle.wh_fields.specs.TupleFields.{words_at, short_tuple, tuple_at}
+use Rattle.wh_text.specs.Problems.{Sheet, ProblemData, blank_sheet, most_bytes, greatest_rank, rank_at, rank_number, allowed_rank, kept_line, line_of_fields, line_at, lines_at, decide, one_tuple, two_tuples, decide_both, problem_with, problem, whole}
+use Rattle.wh_lines.specs.Laws.{IsClean}
+use Rattle.wh_text.specs.Laws.{NamesTheFirstBadByte}
+use Rattle.wh_lines.proofs.Equations.{bind_err}
+use Rattle.wh_text.proofs.ToldLines.{good_line, line_good}
+use Rattle.wh_lines.proofs.SkippedLines.{bad_clean}
 
 -- ---- what other readers refuse is no byte
 abbrev pub IsOther : ReadError → Type 0

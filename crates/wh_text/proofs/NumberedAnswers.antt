@@ -1,33 +1,33 @@
 -- A certificate that was read is numbered: its parts are of one rank, and each line and each `flow` line is counted.
-use Rattle.std.proofs.Common.{◌≡◌, ℕ, ◌+◌, ◌*◌, ◌≤◌, leb, ltb, ◌==◌, true, cond, List, [], ◌∷◌, ◌++◌, length, sym, ap, ◌∙◌, refl, subst, arith, None, Some, Result, Ok, Err, length-append}
+use Rattle.std.proofs.Common.{◌≡◌, ℕ, ◌+◌, ◌*◌, ◌≤◌, leb, ltb, ◌==◌, true, cond, List, [], ◌++◌, length, sym, ap, ◌∙◌, refl, subst, arith, None, Some, Result, Ok, Err, length-append}
 use Rattle.std.specs.Prelude.{codes}
 use Rattle.std.specs.declared.option.Option.{Option}
 use Rattle.std.specs.List.{All}
 use Rattle.std.proofs.lemmas.List.{length-map}
-use Rattle.std.proofs.lemmas.List.Elements.{All-nil, All-cons}
 use Rattle.std.proofs.lemmas.Bool.Decides.{nat_tests}
 use Rattle.wh_words.specs.Tuples.{TupleData}
 use Rattle.wh_words.specs.Moves.{Move, Kind}
 use Rattle.wh_text.specs.declared.command.Command.{Command}
 use Rattle.wh_text.specs.declared.command.Command.TheVariants as commands
-use Rattle.wh_text.specs.declared.read_error.ReadError.{ReadError}
-use Rattle.wh_text.specs.declared.read_error.ReadError.TheVariants as errors
-use Rattle.wh_text.specs.Lines.{Field, lines}
-use Rattle.wh_text.specs.Readings.{◌>>=◌}
-use Rattle.wh_text.specs.MoveFields.{kind_in}
-use Rattle.wh_text.specs.FlowFields.{FlowData, flow_in}
-use Rattle.wh_text.specs.TupleLines.{items_at, tuple_at}
+use Rattle.wh_lines.specs.declared.read_error.ReadError.{ReadError}
+use Rattle.wh_lines.specs.declared.read_error.ReadError.TheVariants as errors
+use Rattle.wh_lines.specs.Lines.{Field, lines}
+use Rattle.wh_lines.specs.Readings.{◌>>=◌, items_at, or_bad_line}
+use Rattle.wh_fields.specs.MoveFields.{kind_in, move_with, move_at}
+use Rattle.wh_fields.specs.FlowFields.{FlowData, flow_in}
+use Rattle.wh_fields.specs.TupleFields.{tuple_at}
 use Rattle.wh_text.specs.Problems.{greatest_rank, allowed_rank}
-use Rattle.wh_text.specs.KeptLines.{Place, Kept, line_after, end_after, times}
+use Rattle.wh_lines.specs.KeptLines.{Place, Kept, line_after, end_after, times}
 use Rattle.wh_text.specs.AnswerData.{CertificateData}
 use Rattle.wh_text.specs.AnswerData.VerdictData.{yes, no_length, no_level}
 use Rattle.wh_text.specs.AnswerData.AnswerData.{reduce, decide}
-use Rattle.wh_text.specs.Certificates.{most_certificate_bytes, or_bad_line, or_bad_tuple, tuple_after, like_after, move_with, move_at, moves_after, flow_after, SideRead, side_with, side_after, number_in, level_after, VerdictWord, VerdictRead, yes_after, sides_after, no_length_after, no_level_after, verdict_in, verdict_with, verdict_after, AnswerRead, reduced_after, decided_after, answer_with, heading_in, heading_after, rank_after, done_after, answer_after, certificate}
+use Rattle.wh_text.specs.Certificates.{most_certificate_bytes, or_bad_tuple, tuple_after, like_after, moves_after, flow_after, SideRead, side_with, side_after, number_in, level_after, VerdictWord, VerdictRead, yes_after, sides_after, no_length_after, no_level_after, verdict_in, verdict_with, verdict_after, AnswerRead, reduced_after, decided_after, answer_with, heading_in, heading_after, rank_after, done_after, answer_after, certificate}
 use Rattle.wh_text.specs.Certificates.VerdictWord.{a_yes, a_no_length, a_no_level}
 use Rattle.wh_text.specs.Numberings.{IsSideOfRank, IsVerdictOfRank, IsAnswerOfOneRank, side_lines, verdict_lines, answer_lines, verdict_flows, flow_lines, IsNumbered}
-use Rattle.wh_text.proofs.Equations.{bind_ok, ok_is, ok_same, unless_ok, if_ok}
-use Rattle.wh_text.proofs.TupleLaws.{tuple_made}
-use Rattle.wh_text.proofs.TakenLines.{kept_from, line_taken, end_taken, Took, one_line, times_took}
+use Rattle.wh_lines.proofs.Equations.{bind_ok, ok_is, ok_same, unless_ok, if_ok}
+use Rattle.wh_fields.proofs.TupleLaws.{tuple_made}
+use Rattle.wh_lines.proofs.TakenLines.{kept_from, line_taken, end_taken, Took, one_line, times_took}
+use Rattle.wh_lines.proofs.ItemReadings.{items_told}
 
 -- ---- tuples
 tuple_rank : (n l : ℕ) (fs : List Field) (r : Result TupleData ReadError) (t : TupleData) → r ≡ tuple_at n l fs → or_bad_tuple l r ≡ Ok t → t.rank ≡ n
@@ -50,15 +50,6 @@ like_took keyword n count p r e =
     let read = tuple_at n k.0.number k.0.fields in
     let a = bind_ok (or_bad_tuple k.0.number read) (next k) r h in
     (a.0, tuple_rank n k.0.number k.0.fields read a.0 refl a.1, (if_ok (length a.0.words == count) (errors.BadLine k.0.number) (Ok (a.0, k.1)) r a.2).1)) e
-
--- ---- moves
-items_told : {A : Type 0} (IsTold : A → Type 0) (item : Field → Result A ReadError) → ((f : Field) (x : A) → item f ≡ Ok x → IsTold x) → (fs : List Field) (xs : List A) → items_at item fs ≡ Ok xs → All IsTold xs
-unfolding items_at
-items_told IsTold item one [] xs e = ok_same (All IsTold) [] xs e (All-nil IsTold)
-items_told IsTold item one (f ∷ fs) xs e =
-    let a = bind_ok (item f) (λ x. items_at item fs >>= λ ys. Ok (x ∷ ys)) xs e in
-    let b = bind_ok (items_at item fs) (λ ys. Ok (a.0 ∷ ys)) xs a.2 in
-    ok_same (All IsTold) (a.0 ∷ b.0) xs b.2 (All-cons IsTold a.0 b.0 (one f a.0 a.1) (items_told IsTold item one fs b.0 b.1))
 
 kind_rank : (n l : ℕ) (o : Option Kind) (m : Move) → or_bad_line l (move_with n o) ≡ Ok m → m.rank ≡ n
 kind_rank n l None m e = absurd (cc)

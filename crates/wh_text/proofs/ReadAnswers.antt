@@ -8,23 +8,25 @@ use Rattle.std.proofs.lemmas.Bool.{cond-true, le-leb}
 use Rattle.wh_words.specs.Tuples.{TupleData, IsTuple}
 use Rattle.wh_text.specs.declared.command.Command.{Command}
 use Rattle.wh_text.specs.declared.command.Command.TheVariants as commands
-use Rattle.wh_text.specs.declared.read_error.ReadError.{ReadError}
-use Rattle.wh_text.specs.declared.read_error.ReadError.TheVariants as errors
-use Rattle.wh_text.specs.Lines.{Field}
-use Rattle.wh_text.specs.Readings.{◌>>=◌}
-use Rattle.wh_text.specs.Spellings.{are}
-use Rattle.wh_text.specs.KeptLines.{Place, first_kept, end_after}
+use Rattle.wh_lines.specs.declared.read_error.ReadError.{ReadError}
+use Rattle.wh_lines.specs.declared.read_error.ReadError.TheVariants as errors
+use Rattle.wh_lines.specs.Lines.{Field, are}
+use Rattle.wh_lines.specs.Readings.{◌>>=◌}
+use Rattle.wh_lines.specs.KeptLines.{Place, first_kept, end_after}
 use Rattle.wh_text.specs.Problems.{greatest_rank, allowed_rank}
 use Rattle.wh_text.specs.AnswerData.{SideData, VerdictData, AnswerData}
 use Rattle.wh_text.specs.AnswerData.AnswerData.{reduce, decide}
 use Rattle.wh_text.specs.Certificates.{tuple_after, like_after, side_after, verdict_after, AnswerRead, reduced_after, decided_after, answer_with, command_at, heading_in, heading_after, rank_after, done_after, answer_after}
-use Rattle.wh_text.specs.ReadingBack.{IsTupleOf, IsSideOf, IsVerdictOf, IsCertificate, heads_from, verdict_heads, heads_of}
-use Rattle.wh_text.proofs.Equations.{split_fields, no_fields}
-use Rattle.wh_text.proofs.TupleLaws.{rank_within}
-use Rattle.wh_text.proofs.PrintedRows.{Row, row_text, IsShown, IsShownRow}
-use Rattle.wh_text.proofs.RowReadings.{Reads, row_told, reads_none, row_then, reads_then, reads_as}
-use Rattle.wh_text.proofs.ShownFields.{written_shown}
-use Rattle.wh_text.proofs.AnswerRows.{words_row, number_row, side_rows, verdict_rows, heading_row, done_row, inner_rows, answer_rows}
+use Rattle.wh_fields.specs.TupleFields.{IsTupleOf}
+use Rattle.wh_text.specs.ReadingBack.{IsSideOf, IsVerdictOf, IsCertificate, verdict_heads, heads_of}
+use Rattle.wh_fields.specs.FlowFields.{heads_from}
+use Rattle.wh_lines.proofs.Equations.{split_fields, no_fields}
+use Rattle.wh_text.proofs.RankLaws.{rank_within}
+use Rattle.wh_lines.proofs.PrintedRows.{Row, row_text, IsShown, IsShownRow, number_row}
+use Rattle.wh_lines.proofs.RowReadings.{Reads, row_told, reads_none, row_then, reads_then, reads_as}
+use Rattle.wh_fields.proofs.ShownFields.{written_shown}
+use Rattle.wh_fields.proofs.FieldRows.{words_row}
+use Rattle.wh_text.proofs.AnswerRows.{side_rows, verdict_rows, heading_row, done_row, inner_rows, answer_rows}
 use Rattle.wh_text.proofs.ReadSides.{tuple_read, like_read, side_told, side_read}
 use Rattle.wh_text.proofs.ReadVerdicts.{number_then, verdict_read}
 

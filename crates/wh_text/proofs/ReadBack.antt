@@ -1,15 +1,15 @@
 -- What is printed for an answer that is a certificate is read back as that answer: for the law on printed answers.
 use Rattle.std.proofs.Common.{◌≡◌, ℕ, ◌≤◌, ltb, List, [], ◌∷◌, ◌++◌, length, map, sym, ap, ◌∙◌, subst, arith, Ok, Err}
 use Rattle.std.proofs.lemmas.Bool.{cond-false}
-use Rattle.wh_text.specs.declared.read_error.ReadError.TheVariants as errors
-use Rattle.wh_text.specs.Lines.{lines}
-use Rattle.wh_text.specs.Readings.{◌>>=◌}
-use Rattle.wh_text.specs.KeptLines.{kept_numbers}
+use Rattle.wh_lines.specs.declared.read_error.ReadError.TheVariants as errors
+use Rattle.wh_lines.specs.Lines.{lines}
+use Rattle.wh_lines.specs.Readings.{◌>>=◌}
+use Rattle.wh_lines.specs.KeptLines.{kept_numbers, numbers_from}
 use Rattle.wh_text.specs.AnswerData.{CertificateData, answer_of}
 use Rattle.wh_text.specs.Certificates.{most_certificate_bytes, AnswerRead, answer_after, certificate}
-use Rattle.wh_text.specs.ReadingBack.{heads_of, numbers_from, ReadsBack}
-use Rattle.wh_text.proofs.Equations.{is_not_more}
-use Rattle.wh_text.proofs.PrintedRows.{Row, row_text, rows_text, rows_lines, rows_numbers}
+use Rattle.wh_text.specs.ReadingBack.{heads_of, ReadsBack}
+use Rattle.wh_lines.proofs.Equations.{is_not_more}
+use Rattle.wh_lines.proofs.PrintedRows.{Row, row_text, rows_text, rows_lines, rows_numbers}
 use Rattle.wh_text.proofs.AnswerRows.{done_row, answer_rows}
 use Rattle.wh_text.proofs.RowTexts.{text_is}
 use Rattle.wh_text.proofs.ReadAnswers.{TellAnswer, answer_read}

@@ -8,28 +8,27 @@ use Rattle.wh_words.specs.Words.{IsOfRank}
 use Rattle.wh_words.specs.CyclicWords.{cyclic_word}
 use Rattle.wh_words.specs.Tuples.{TupleData, IsTuple}
 use Rattle.wh_words.specs.Moves.{Move, IsKind}
-use Rattle.wh_text.specs.declared.read_error.ReadError.{ReadError}
-use Rattle.wh_text.specs.declared.read_error.ReadError.TheVariants as errors
-use Rattle.wh_text.specs.Lines.{Field}
-use Rattle.wh_text.specs.Readings.{◌>>=◌}
-use Rattle.wh_text.specs.Spellings.{word_text}
-use Rattle.wh_text.specs.FieldTexts.{kind_text}
-use Rattle.wh_text.specs.FlowTexts.{flow_value}
-use Rattle.wh_text.specs.MoveFields.{kind_in}
-use Rattle.wh_text.specs.FlowFields.{FlowData, flow_in}
-use Rattle.wh_text.specs.TupleLines.{items_at, tuple_at}
-use Rattle.wh_text.specs.KeptLines.{Place, Kept, times}
+use Rattle.wh_lines.specs.declared.read_error.ReadError.{ReadError}
+use Rattle.wh_lines.specs.declared.read_error.ReadError.TheVariants as errors
+use Rattle.wh_lines.specs.Lines.{Field}
+use Rattle.wh_lines.specs.Readings.{◌>>=◌, items_at, or_bad_line}
+use Rattle.wh_fields.specs.Words.{word_text}
+use Rattle.wh_fields.specs.MoveFields.{kind_text, kind_in, move_with, move_at, IsMoveOf}
+use Rattle.wh_fields.specs.FlowFields.{flow_value, FlowData, flow_in, IsFlowOf, heads_from}
+use Rattle.wh_fields.specs.TupleFields.{tuple_at, IsTupleOf}
+use Rattle.wh_lines.specs.KeptLines.{Place, Kept, times}
 use Rattle.wh_text.specs.AnswerData.{SideData}
-use Rattle.wh_text.specs.Certificates.{or_bad_line, or_bad_tuple, tuple_after, like_after, move_with, move_at, moves_after, flow_after, SideRead, side_with, side_after}
-use Rattle.wh_text.specs.ReadingBack.{IsMoveOf, IsTupleOf, IsFlowOf, IsSideOf, heads_from}
-use Rattle.wh_text.proofs.Scanning.{eq_true}
-use Rattle.wh_text.proofs.TupleLaws.{tuple_back}
-use Rattle.wh_text.proofs.PrintedRows.{IsShown, IsShownRow}
-use Rattle.wh_text.proofs.RowReadings.{Reads, Tell, reads_none, row_then, reads_then, reads_as, times_none, times_more}
-use Rattle.wh_text.proofs.ShownFields.{word_shown, kind_shown, flow_shown, written_shown}
-use Rattle.wh_text.proofs.ReadMoves.{kind_back}
-use Rattle.wh_text.proofs.ReadFlows.{flow_back}
-use Rattle.wh_text.proofs.AnswerRows.{words_row, moves_row, flow_row, flow_rows, side_rows}
+use Rattle.wh_text.specs.Certificates.{or_bad_tuple, tuple_after, like_after, moves_after, flow_after, SideRead, side_with, side_after}
+use Rattle.wh_text.specs.ReadingBack.{IsSideOf}
+use Rattle.wh_lines.proofs.Scanning.{eq_true}
+use Rattle.wh_fields.proofs.TupleLaws.{tuple_back}
+use Rattle.wh_lines.proofs.PrintedRows.{IsShown, IsShownRow}
+use Rattle.wh_lines.proofs.RowReadings.{Reads, Tell, reads_none, row_then, reads_then, reads_as, times_none, times_more}
+use Rattle.wh_fields.proofs.ShownFields.{word_shown, kind_shown, flow_shown, written_shown}
+use Rattle.wh_fields.proofs.ReadMoves.{kind_back}
+use Rattle.wh_fields.proofs.ReadFlows.{flow_back}
+use Rattle.wh_fields.proofs.FieldRows.{words_row, moves_row, flow_row}
+use Rattle.wh_text.proofs.AnswerRows.{flow_rows, side_rows}
 
 -- ---- moves
 kind_of : (n : ℕ) (m : Move) → IsMoveOf n m → IsKind n m.kind

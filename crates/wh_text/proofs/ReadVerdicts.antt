@@ -6,23 +6,25 @@ use Rattle.std.proofs.lemmas.List.Elements.{All-nil, All-cons, All-head, All-tai
 use Rattle.std.proofs.lemmas.Bool.{cond-true}
 use Rattle.std.proofs.lemmas.Bool.Decides.{nat_tests}
 use Rattle.wh_words.specs.Tuples.{TupleData}
-use Rattle.wh_text.specs.declared.read_error.ReadError.{ReadError}
-use Rattle.wh_text.specs.declared.read_error.ReadError.TheVariants as errors
-use Rattle.wh_text.specs.Lines.{Field}
-use Rattle.wh_text.specs.Readings.{◌>>=◌}
-use Rattle.wh_text.specs.Spellings.{are}
-use Rattle.wh_text.specs.KeptLines.{Place, line_after, times}
+use Rattle.wh_lines.specs.declared.read_error.ReadError.{ReadError}
+use Rattle.wh_lines.specs.declared.read_error.ReadError.TheVariants as errors
+use Rattle.wh_lines.specs.Lines.{Field, are}
+use Rattle.wh_lines.specs.Readings.{◌>>=◌, or_bad_line}
+use Rattle.wh_lines.specs.KeptLines.{Place, line_after, times}
 use Rattle.wh_text.specs.AnswerData.{SideData, VerdictData}
 use Rattle.wh_text.specs.AnswerData.VerdictData.{yes, no_length, no_level, undecided}
-use Rattle.wh_text.specs.Certificates.{or_bad_line, like_after, moves_after, side_after, within, number_in, level_after, VerdictWord, VerdictRead, sides_after, verdict_in, verdict_with, verdict_after}
+use Rattle.wh_text.specs.Certificates.{like_after, moves_after, side_after, within, number_in, level_after, VerdictWord, VerdictRead, sides_after, verdict_in, verdict_with, verdict_after}
 use Rattle.wh_text.specs.Certificates.VerdictWord.{a_yes, a_no_length, a_no_level}
-use Rattle.wh_text.specs.ReadingBack.{IsTupleOf, IsSideOf, IsVerdictOf, heads_from, verdict_heads}
-use Rattle.wh_text.proofs.Equations.{split_fields, no_fields}
-use Rattle.wh_text.proofs.NumberLaws.{reads_numbers}
-use Rattle.wh_text.proofs.PrintedRows.{Row, IsShown, IsShownRow}
-use Rattle.wh_text.proofs.RowReadings.{Reads, row_then, reads_then, reads_as, reads_by, times_none, times_more}
-use Rattle.wh_text.proofs.ShownFields.{written_shown, decimal_shown}
-use Rattle.wh_text.proofs.AnswerRows.{words_row, moves_row, number_row, side_rows, at_rows, level_rows, verdict_row, verdict_rows}
+use Rattle.wh_fields.specs.TupleFields.{IsTupleOf}
+use Rattle.wh_text.specs.ReadingBack.{IsSideOf, IsVerdictOf, verdict_heads}
+use Rattle.wh_fields.specs.FlowFields.{heads_from}
+use Rattle.wh_lines.proofs.Equations.{split_fields, no_fields}
+use Rattle.wh_lines.proofs.NumberLaws.{reads_numbers}
+use Rattle.wh_lines.proofs.PrintedRows.{Row, IsShown, IsShownRow, number_row}
+use Rattle.wh_lines.proofs.RowReadings.{Reads, row_then, reads_then, reads_as, reads_by, times_none, times_more}
+use Rattle.wh_fields.proofs.ShownFields.{written_shown, decimal_shown}
+use Rattle.wh_fields.proofs.FieldRows.{words_row, moves_row}
+use Rattle.wh_text.proofs.AnswerRows.{side_rows, at_rows, level_rows, verdict_row, verdict_rows}
 use Rattle.wh_text.proofs.ReadSides.{moves_read, like_read, side_told, side_read}
 
 -- ---- numbers

@@ -12,16 +12,19 @@ use Rattle.wh_text.specs.declared.answer.Verdict.{Verdict}
 use Rattle.wh_text.specs.declared.answer.Verdict.TheVariants as verdicts
 use Rattle.wh_text.specs.declared.answer.Answer.{Answer}
 use Rattle.wh_text.specs.declared.answer.Answer.TheVariants as answers
-use Rattle.wh_text.specs.Spellings.{letter_text, word_text}
-use Rattle.wh_text.specs.FieldTexts.{kind_text, word_field, move_field, words_text, moves_text, number_text}
-use Rattle.wh_text.specs.FlowTexts.{texts_below, pair_field, pairs_text, flow_value, flow_text, flows_text}
+use Rattle.wh_fields.specs.Words.{letter_text, word_text}
+use Rattle.wh_fields.specs.MoveFields.{kind_text, move_field, moves_text}
+use Rattle.wh_fields.specs.TupleFields.{word_field, words_text}
+use Rattle.wh_lines.specs.Numbers.{number_text}
+use Rattle.wh_fields.specs.FlowFields.{texts_below, pair_field, pairs_text, flow_value, flow_text, flows_text}
 use Rattle.wh_text.specs.AnswerTexts.{rank_text, side_text, at_text, level_text, verdict_text, decided_text, reduced_text, answer_text}
 use Rattle.wh_text.specs.AnswerData.{SideData, plains, side_of, verdict_of, answer_of}
 use Rattle.wh_text.specs.AnswerData.AnswerData.{reduce, decide}
 use Rattle.wh_text.specs.ReadingBack.{IsSideOf, IsVerdictOf, IsCertificate}
-use Rattle.wh_text.proofs.PrintedRows.{Row, spaced, row_text, rows_text}
-use Rattle.wh_text.proofs.ItemRuns.{items_from, texts_are, items_mapped, items_same}
-use Rattle.wh_text.proofs.AnswerRows.{words_row, moves_row, number_row, pair_item, pair_items, flow_row, flow_rows, side_rows, at_rows, level_rows, verdict_rows, done_row, inner_rows, answer_rows}
+use Rattle.wh_lines.proofs.PrintedRows.{Row, spaced, row_text, rows_text, number_row}
+use Rattle.wh_fields.proofs.ItemRuns.{items_from, texts_are, items_mapped, items_same}
+use Rattle.wh_fields.proofs.FieldRows.{words_row, moves_row, pair_item, pair_items, flow_row}
+use Rattle.wh_text.proofs.AnswerRows.{flow_rows, side_rows, at_rows, level_rows, verdict_rows, done_row, inner_rows, answer_rows}
 
 -- ---- rows
 -- A text is that of these rows.

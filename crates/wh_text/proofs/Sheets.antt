@@ -1,14 +1,13 @@
 -- Reading lines one after the other: for the loop over all lines.
 use Rattle.std.proofs.Common.{◌≡◌, ℕ, ◌+◌, ◌<◌, ◌≤◌, List, length, take, drop, sym, ap, ◌∙◌, arith, Result, Ok}
 use Rattle.std.proofs.lemmas.List.{drop_all, drop-drop, length-drop}
-use Rattle.wh_text.specs.declared.read_error.ReadError.{ReadError}
-use Rattle.wh_text.specs.declared.read_error.ReadError.{ReadError}
+use Rattle.wh_lines.specs.declared.read_error.ReadError.{ReadError}
 use Rattle.wh_text.specs.declared.command.Command.{Command}
-use Rattle.wh_text.specs.Lines.{lines}
-use Rattle.wh_text.specs.Scans.{before}
-use Rattle.wh_text.specs.Readings.{◌>>=◌, Refuses}
+use Rattle.wh_lines.specs.Lines.{lines}
+use Rattle.wh_lines.specs.Scans.{before}
+use Rattle.wh_lines.specs.Readings.{◌>>=◌, Refuses}
 use Rattle.wh_text.specs.Problems.{Sheet, line_at, lines_at}
-use Rattle.wh_text.proofs.LineCuts.{lines_front}
+use Rattle.wh_lines.proofs.LineCuts.{lines_front}
 
 -- the line that begins at a byte, and those after it
 lines_step : (command : Command) (l : ℕ) (s : Sheet) (bytes : List ℕ) (at n : ℕ) → at < length bytes → n ≡ before 10 (drop at bytes) →

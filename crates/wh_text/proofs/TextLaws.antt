@@ -5,13 +5,13 @@ use Rattle.std.proofs.lemmas.Bool.{cond-true, cond-false, eqb-true}
 use Rattle.wh_words.specs.Tuples.{TupleData}
 use Rattle.wh_text.specs.declared.command.Command.{Command}
 use Rattle.wh_text.specs.declared.command.Command.TheVariants as commands
-use Rattle.wh_text.specs.declared.read_error.ReadError.TheVariants as errors
-use Rattle.wh_text.specs.Lines.{lines}
-use Rattle.wh_text.specs.Readings.{◌>>=◌}
-use Rattle.wh_text.specs.Problems.{Sheet, ProblemData, blank_sheet, reduce, decide, most_bytes, lines_at, one_tuple, two_tuples, decide_both, problem_with, whole, problem}
+use Rattle.wh_lines.specs.declared.read_error.ReadError.TheVariants as errors
+use Rattle.wh_lines.specs.Lines.{lines}
+use Rattle.wh_lines.specs.Readings.{◌>>=◌}
+use Rattle.wh_text.specs.Problems.{Sheet, ProblemData, blank_sheet, reduce, decide, most_bytes, lines_at, one_tuple, two_tuples, decide_both, problem_with, problem, whole}
 use Rattle.wh_text.specs.Laws.{IsRankLine, IsTupleLine, IsReduceText, IsDecideText, ReadsReduceTexts, ReadsDecideTexts}
-use Rattle.wh_text.proofs.Equations.{bind_ok, ok_is, unless_ok, if_ok, not_more, is_not_more}
-use Rattle.wh_text.proofs.Scanning.{eq_true}
+use Rattle.wh_lines.proofs.Equations.{bind_ok, ok_is, unless_ok, if_ok, not_more, is_not_more}
+use Rattle.wh_lines.proofs.Scanning.{eq_true}
 use Rattle.wh_text.proofs.ToldLines.{TupleLines, none, more, told_sheet, LinesTell, ranks_are, ranks_back}
 
 -- ---- the whole

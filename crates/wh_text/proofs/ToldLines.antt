@@ -1,57 +1,27 @@
 -- What lines tell that are read one after the other, and from which lines it is read: for the laws on whole texts.
-use Rattle.std.proofs.Common.{◌≡◌, ℕ, ◌+◌, ◌≤◌, ◌==◌, Bool, true, false, cond, List, [], ◌∷◌, ◌++◌, map, sym, ap, ◌∙◌, refl, subst, arith, None, Some, inl, inr, Result, Ok, Err, append-nil, append_assoc}
-use Rattle.std.specs.Prelude.{◌||◌, ◌&&◌, codes, decimal}
+use Rattle.std.proofs.Common.{◌≡◌, ℕ, ◌+◌, ◌≤◌, Bool, true, false, cond, List, [], ◌∷◌, ◌++◌, map, sym, ap, ◌∙◌, refl, subst, arith, None, Some, inl, inr, Result, Ok, Err, append-nil, append_assoc}
+use Rattle.std.specs.Prelude.{◌||◌, codes, decimal}
 use Rattle.std.specs.declared.option.Option.{Option}
-use Rattle.std.specs.List.{All, list_all}
+use Rattle.std.specs.List.{All}
 use Rattle.std.proofs.lemmas.List.Elements.{All-nil, All-cons, All-head, All-tail}
-use Rattle.std.proofs.lemmas.Bool.{cases_Bool, cond-true, cond-false, cond_both, false≢true}
+use Rattle.std.proofs.lemmas.Bool.{cases_Bool, cond-true, cond-false, false≢true}
 use Rattle.wh_words.specs.Tuples.{TupleData}
 use Rattle.wh_text.specs.declared.command.Command.{Command}
-use Rattle.wh_text.specs.declared.read_error.ReadError.{ReadError}
-use Rattle.wh_text.specs.declared.read_error.ReadError.TheVariants as errors
-use Rattle.wh_text.specs.Lines.{Field, is_allowed, bad_at, is_comment, joined, fields}
-use Rattle.wh_text.specs.Readings.{◌>>=◌}
-use Rattle.wh_text.specs.Spellings.{are, word_text}
-use Rattle.wh_text.specs.TupleLines.{tuple_at}
-use Rattle.wh_text.specs.Problems.{Sheet, blank_sheet, greatest_rank, rank_at, first_line, later_line, kept_line, line_of_fields, line_at, lines_at}
-use Rattle.wh_text.specs.KeptLines.{good_fields, line_fields, is_skipped}
-use Rattle.wh_text.specs.Laws.{kept_lines, IsClean, IsRankLine, IsTupleLine}
-use Rattle.wh_text.proofs.Equations.{bind_ok, ok_is, if_ok, are_is, are_back, split_fields}
-use Rattle.wh_text.proofs.TupleLaws.{AreSome, fields_some, Spell, tuple_is, tuple_back, rank_within, rank_is, rank_back}
-
--- ---- a line
-pub bad_clean : (c : ℕ) (line : List ℕ) → bad_at c line ≡ None → IsClean line
-bad_clean c [] e = All-nil (λ b. is_allowed b ≡ true)
-bad_clean c (b ∷ bs) e = elim (cases_Bool (is_allowed b)) [
-  | inl t ↦ All-cons (λ b. is_allowed b ≡ true) b bs t (bad_clean (c + 1) bs (sym (cond-true (is_allowed b) (bad_at (c + 1) bs) (Some c) t) ∙ e))
-  | inr f ↦ (let no : ◌≡◌ {A = Option ℕ} (Some c) None = sym (cond-false (is_allowed b) (bad_at (c + 1) bs) (Some c) f) ∙ e in absurd (cc))
-]
-
-pub clean_bad : (c : ℕ) (line : List ℕ) → IsClean line → bad_at c line ≡ None
-clean_bad c [] h = refl
-clean_bad c (b ∷ bs) h =
-    cond-true (is_allowed b) (bad_at (c + 1) bs) (Some c) (All-head (λ b. is_allowed b ≡ true) b bs h) ∙ clean_bad (c + 1) bs (All-tail (λ b. is_allowed b ≡ true) b bs h)
-
-abbrev pub is_none : List Field → Bool
-is_none [] = true
-is_none (f ∷ fs) = false
-
-joined_none : (c b : ℕ) (fs : List Field) → is_none (joined c b fs) ≡ false
-joined_none c b [] = refl
-joined_none c b (f ∷ fs) =
-    cond_both (f.column == c + 1) (record { column = c; bytes = b ∷ f.bytes } ∷ fs) (record { column = c; bytes = b ∷ [] } ∷ f ∷ fs) (λ gs. is_none gs ≡ false) (λ _. refl) (λ _. refl)
-
-blank_by : (t u : Bool) (c b : ℕ) (fs : List Field) → u ≡ is_none fs → (t && u) ≡ is_none (cond t fs (joined c b fs))
-blank_by true u c b fs e = e
-blank_by false u c b fs e = sym (joined_none c b fs)
-
--- a line has no field exactly where all its bytes are spaces
-blank_none : (c : ℕ) (line : List ℕ) → list_all (λ b. b == 32) line ≡ is_none (fields c line)
-blank_none c [] = refl
-blank_none c (b ∷ bs) = blank_by (b == 32) (list_all (λ b. b == 32) bs) c b (fields (c + 1) bs) (blank_none (c + 1) bs)
-
-pub skipped_is : (line : List ℕ) → is_skipped line ≡ (is_comment line || is_none (fields 1 line))
-skipped_is line = ap (λ t. is_comment line || t) (blank_none 1 line)
+use Rattle.wh_lines.specs.declared.read_error.ReadError.{ReadError}
+use Rattle.wh_lines.specs.declared.read_error.ReadError.TheVariants as errors
+use Rattle.wh_lines.specs.Lines.{Field, bad_at, is_comment, fields, are}
+use Rattle.wh_lines.specs.Readings.{◌>>=◌}
+use Rattle.wh_fields.specs.Words.{word_text}
+use Rattle.wh_fields.specs.TupleFields.{tuple_at}
+use Rattle.wh_text.specs.Problems.{Sheet, blank_sheet, greatest_rank, rank_at, later_line, kept_line, line_of_fields, line_at, lines_at, first_line}
+use Rattle.wh_lines.specs.KeptLines.{good_fields, line_fields, is_skipped}
+use Rattle.wh_lines.specs.Laws.{kept_lines, IsClean}
+use Rattle.wh_text.specs.Laws.{IsRankLine, IsTupleLine}
+use Rattle.wh_lines.proofs.Equations.{bind_ok, ok_is, if_ok, are_is, are_back, split_fields}
+use Rattle.wh_fields.proofs.TupleLaws.{Spell, tuple_is, tuple_back}
+use Rattle.wh_text.proofs.RankLaws.{rank_within, rank_is, rank_back}
+use Rattle.wh_lines.proofs.SkippedLines.{bad_clean, clean_bad, is_none, skipped_is}
+use Rattle.wh_lines.proofs.FieldLaws.{rest_some}
 
 -- a line is skipped, or its keyword and the fields after it are read
 data Told (command : Command) (l : ℕ) (s : Sheet) (line : List ℕ) (told : Sheet) : Type 0 where
@@ -129,9 +99,6 @@ spell_line n line keyword fs u f e s = record {
   short = s.short;
   cyclic = s.cyclic;
 }
-
-pub rest_some : (line : List ℕ) (keyword : Field) (fs : List Field) → fields 1 line ≡ keyword ∷ fs → AreSome fs
-rest_some line keyword fs f = All-tail (λ g. g.bytes ≡ [] → ⊥) keyword fs (subst AreSome f (fields_some 1 line))
 
 -- what a kept line tells where the rank is known
 later_is : (n l : ℕ) (ts : List TupleData) (line : List ℕ) (keyword : Field) (fs : List Field) (told : Sheet) → n ≤ 26 → fields 1 line ≡ keyword ∷ fs →

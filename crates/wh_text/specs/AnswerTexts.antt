@@ -9,8 +9,10 @@ use Rattle.wh_text.specs.declared.answer.Verdict.{Verdict}
 use Rattle.wh_text.specs.declared.answer.Verdict.TheVariants as verdicts
 use Rattle.wh_text.specs.declared.answer.Answer.{Answer}
 use Rattle.wh_text.specs.declared.answer.Answer.TheVariants as answers
-use Rattle.wh_text.specs.FieldTexts.{words_text, moves_text, number_text}
-use Rattle.wh_text.specs.FlowTexts.{flows_text, HaveLines}
+use Rattle.wh_fields.specs.TupleFields.{words_text}
+use Rattle.wh_fields.specs.MoveFields.{moves_text}
+use Rattle.wh_lines.specs.Numbers.{number_text}
+use Rattle.wh_fields.specs.FlowFields.{flows_text, HaveLines}
 
 -- ---- lines of all commands
 -- The line of a rank.

@@ -1,33 +1,26 @@
 -- The text of an answer of `reduce` or `decide` that can be checked, and the first refusal of a text that isn't one.
 use Rattle.std.specs.Prelude.{ℕ, ◌==◌, leb, ltb, ◌&&◌, ◌||◌, Bool, cond, List, [], ◌∷◌, ◌++◌, length, map, Option, Some, None, is_some, Result, Ok, Err, codes}
 use Rattle.wh_words.specs.Tuples.{TupleData}
-use Rattle.wh_words.specs.Moves.{Move, Kind}
+use Rattle.wh_words.specs.Moves.{Move}
 use Rattle.wh_text.specs.declared.command.Command.{Command}
 use Rattle.wh_text.specs.declared.command.Command.TheVariants as commands
-use Rattle.wh_text.specs.declared.read_error.ReadError.{ReadError}
-use Rattle.wh_text.specs.declared.read_error.ReadError.TheVariants as errors
-use Rattle.wh_text.specs.Lines.{Field, lines}
-use Rattle.wh_text.specs.Readings.{◌>>=◌}
-use Rattle.wh_text.specs.Numbers.{number}
-use Rattle.wh_text.specs.Spellings.{are}
-use Rattle.wh_text.specs.TupleLines.{items_at, tuple_at}
-use Rattle.wh_text.specs.MoveFields.{kind_in}
-use Rattle.wh_text.specs.FlowFields.{FlowData, flow_in}
+use Rattle.wh_lines.specs.declared.read_error.ReadError.{ReadError}
+use Rattle.wh_lines.specs.declared.read_error.ReadError.TheVariants as errors
+use Rattle.wh_lines.specs.Lines.{Field, lines, are}
+use Rattle.wh_lines.specs.Readings.{◌>>=◌, items_at, or_bad_line}
+use Rattle.wh_lines.specs.Numbers.{number}
+use Rattle.wh_fields.specs.TupleFields.{tuple_at}
+use Rattle.wh_fields.specs.FlowFields.{FlowData, flow_in}
 use Rattle.wh_text.specs.Problems.{allowed_rank}
 use Rattle.wh_text.specs.AnswerData.{SideData, VerdictData, AnswerData, CertificateData}
 use Rattle.wh_text.specs.AnswerData.VerdictData.{yes, no_length, no_level}
 use Rattle.wh_text.specs.AnswerData.AnswerData.{reduce, decide}
-use Rattle.wh_text.specs.KeptLines.{Place, line_after, end_after, times, kept_numbers}
+use Rattle.wh_lines.specs.KeptLines.{Place, line_after, end_after, times, kept_numbers}
+use Rattle.wh_fields.specs.MoveFields.{move_at}
 
 -- How many bytes the text may have.
 abbrev pub most_certificate_bytes : ℕ
 most_certificate_bytes = 67108864
-
--- ---- lines
--- What line l tells, or that it doesn't continue such a text.
-abbrev pub or_bad_line : {A : Type 0} → ℕ → Option A → Result A ReadError
-or_bad_line l None = Err (errors.BadLine l)
-or_bad_line l (Some x) = Ok x
 
 -- The tuple of a line of problems. Here a line whose words are refused doesn't continue the text.
 abbrev pub or_bad_tuple : ℕ → Result TupleData ReadError → Result TupleData ReadError
@@ -47,15 +40,6 @@ like_after keyword n count p =
     line_after keyword p >>= λ k.
     or_bad_tuple k.0.number (tuple_at n k.0.number k.0.fields) >>= λ t.
     cond (length t.words == count) (Ok (t, k.1)) (Err (errors.BadLine k.0.number))
-
--- The move of rank n that a kind gives.
-abbrev pub move_with : ℕ → Option Kind → Option Move
-move_with n None = None
-move_with n (Some kind) = Some (record { rank = n; kind = kind })
-
--- The move of a field in line l.
-abbrev pub move_at : ℕ → ℕ → Field → Result Move ReadError
-move_at n l f = or_bad_line l (move_with n (kind_in n f.bytes))
 
 -- The next line has this keyword and moves of rank n.
 unfoldable pub moves_after : List ℕ → ℕ → Place → Result (List Move × Place) ReadError

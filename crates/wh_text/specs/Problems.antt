@@ -5,14 +5,13 @@ use Rattle.wh_text.specs.declared.command.Command.{Command}
 use Rattle.wh_text.specs.declared.command.Command.TheVariants as commands
 use Rattle.wh_text.specs.declared.problem.Problem.{Problem}
 use Rattle.wh_text.specs.declared.problem.Problem.TheVariants as problems
-use Rattle.wh_text.specs.declared.read_error.ReadError.{ReadError}
-use Rattle.wh_text.specs.declared.read_error.ReadError.TheVariants as errors
-use Rattle.wh_text.specs.Lines.{Field, lines}
-use Rattle.wh_text.specs.KeptLines.{line_fields}
-use Rattle.wh_text.specs.Readings.{◌>>=◌}
-use Rattle.wh_text.specs.Numbers.{number}
-use Rattle.wh_text.specs.Spellings.{are}
-use Rattle.wh_text.specs.TupleLines.{tuple_at}
+use Rattle.wh_lines.specs.declared.read_error.ReadError.{ReadError}
+use Rattle.wh_lines.specs.declared.read_error.ReadError.TheVariants as errors
+use Rattle.wh_lines.specs.Lines.{Field, lines, are}
+use Rattle.wh_lines.specs.KeptLines.{line_fields}
+use Rattle.wh_lines.specs.Readings.{◌>>=◌}
+use Rattle.wh_lines.specs.Numbers.{number}
+use Rattle.wh_fields.specs.TupleFields.{tuple_at}
 
 -- The problem of a command, whatever room its tuples have.
 pub data ProblemData : Type 0 where

@@ -1,19 +1,14 @@
 //! Reading of the lines of answers.
 ghost use Rattle.std.specs.Prelude.{◌≡◌, ℕ, ◌≤◌, length, map, IfOk, IfSome, codes};
-ghost use Rattle.wh_text.specs.Readings.{Gives};
-ghost use Rattle.wh_text.specs.TupleLines.{tuple_at};
-ghost use Rattle.wh_text.specs.KeptLines.{times};
-ghost use Rattle.wh_text.specs.FlowFields.{FlowData};
+ghost use Rattle.wh_lines.specs.Readings.{Gives, or_bad_line};
+ghost use Rattle.wh_fields.specs.TupleFields.{tuple_at};
+ghost use Rattle.wh_lines.specs.KeptLines.{times};
+ghost use Rattle.wh_fields.specs.FlowFields.{FlowData};
 ghost use Rattle.wh_text.specs.Certificates as spec;
 
-use crate::field::Field;
-use crate::flow_field::{FlowLine, read_flow};
-use crate::kept_line::{Kept, Place, line_after};
-use crate::move_field::read_moves;
-use crate::number::canonical_number;
-use crate::read_error::ReadError;
-use crate::tuple_line::read_tuple;
 use std::alloc::Global;
+use wh_fields::{FlowLine, read_flow, read_moves, read_tuple};
+use wh_lines::{Field, Kept, Place, ReadError, canonical_number, line_after};
 use wh_moves::Move;
 use wh_words::{List, Rank, Tuple};
 
@@ -150,7 +145,7 @@ fn within(least: u64, most: u64, number: Option<u64>) -> Option<u64>
 
 /// The number of the one field. BadLine comes where there is another number of fields, or no number of the range.
 pub fn read_number(line: u64, least: u64, most: u64, fields: &[Field]) -> Result<u64, ReadError>
-    ensures number { Gives (λ n. n) result (spec.or_bad_line line (spec.number_in least most fields.now)) }
+    ensures number { Gives (λ n. n) result (or_bad_line line (spec.number_in least most fields.now)) }
     ensures within { IfOk result (λ n. (least ≤ n) × (n ≤ most)) }
 {
     let number = match fields {

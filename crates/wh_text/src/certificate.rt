@@ -1,11 +1,11 @@
 //! Reading of answers that can be checked.
 ghost use Rattle.std.specs.Prelude.{◌≡◌, ◌<◌, ◌≤◌, ◌==◌, ◌++◌, ◌∷◌, [], cond, length, OnOk, IfOk, IfErr, Ok, Err};
 ghost use Rattle.std.specs.List.{list_all};
-ghost use Rattle.wh_text.specs.declared.read_error.ReadError.TheVariants.{InputTooLong};
-ghost use Rattle.wh_text.specs.Lines.{lines};
-ghost use Rattle.wh_text.specs.Readings.{Gives, Refuses};
+ghost use Rattle.wh_lines.specs.declared.read_error.ReadError.TheVariants.{InputTooLong};
+ghost use Rattle.wh_lines.specs.Lines.{lines};
+ghost use Rattle.wh_lines.specs.Readings.{Gives, Refuses};
 ghost use Rattle.wh_text.specs.AnswerData.{certificate_of};
-ghost use Rattle.wh_text.specs.KeptLines.{is_skipped, kept_numbers};
+ghost use Rattle.wh_lines.specs.KeptLines.{is_skipped, kept_numbers};
 ghost use Rattle.wh_text.specs.Certificates as spec;
 ghost use Rattle.wh_text.specs.Certificates.{certificate, most_certificate_bytes};
 ghost use Rattle.wh_text.specs.Numberings.{IsNumbered};
@@ -13,16 +13,13 @@ ghost use Rattle.wh_text.specs.Numberings.{IsNumbered};
 use crate::answer::Answer;
 use crate::answer_line::{like_after, read_number, tuple_after};
 use crate::command::Command;
-use crate::field::Field;
-use crate::kept_line::{Place, end_after, line_after};
-use crate::line::{after, before, is_comment};
 use crate::numbered::Numbered;
-use crate::read_error::ReadError;
 use crate::sheet::allowed_rank;
 use crate::side_reading::side_after;
 use crate::verdict_reading::verdict_after;
 use std::alloc::Global;
 use std::marker::Model;
+use wh_lines::{Field, Place, ReadError, after, before, end_after, is_comment, line_after};
 use wh_words::{Letter, List, OutOfMemory, Rank};
 
 /// How many bytes the text of an answer may have.

@@ -3,9 +3,9 @@ ghost use Rattle.std.specs.Prelude.{◌≡◌, ◌++◌, IfOk, OnOk};
 ghost use Rattle.wh_text.specs.AnswerTexts.{rank_text, side_text, reduced_text, level_text, bound_text, verdict_text, decided_text, answer_text, IsPrintableSide, IsPrintableVerdict, IsPrintable};
 
 use crate::answer::{Answer, Bound, Side, Verdict};
-use crate::field_printer::{push_moves, push_number_line, push_words};
-use crate::flow_line::push_flows;
 use std::alloc::Global;
+use wh_fields::{print_flows, print_moves, print_words};
+use wh_lines::print_number_line;
 use wh_words::{OutOfMemory, Tuple};
 
 /// Writes the line of the rank of a tuple.
@@ -13,7 +13,7 @@ fn push_rank(out: &mut Vec<u8>, tuple: &Tuple) -> Result<(), OutOfMemory>
     ensures { OnOk result (out.new.items ≡ out.old.items ++ rank_text tuple.now.plain.rank) }
 {
     out.extend_from_slice(b"rank")?;
-    push_number_line(out, tuple.rank().get() as u64)
+    print_number_line(out, tuple.rank().get() as u64)
 }
 
 /// Writes the lines of a side.
@@ -23,10 +23,10 @@ fn push_side(out: &mut Vec<u8>, side: &Side) -> Result<(), OutOfMemory>
     ensures { OnOk result (out.new.items ≡ out.old.items ++ side_text side.now) }
 {
     out.extend_from_slice(b"trace")?;
-    push_moves(out, side.trace.items())?;
+    print_moves(out, side.trace.items())?;
     out.extend_from_slice(b"end")?;
-    push_words(out, &side.end)?;
-    push_flows(out, side.end.rank(), side.flows.items())
+    print_words(out, &side.end)?;
+    print_flows(out, side.end.rank(), side.flows.items())
 }
 
 /// Writes the lines of two sides.
@@ -46,7 +46,7 @@ fn push_reduced(out: &mut Vec<u8>, tuple: &Tuple, side: &Side) -> Result<(), Out
 {
     push_rank(out, tuple)?;
     out.extend_from_slice(b"tuple")?;
-    push_words(out, tuple)?;
+    print_words(out, tuple)?;
     push_side(out, side)
 }
 
@@ -55,10 +55,10 @@ fn push_level(out: &mut Vec<u8>, level: &[Tuple]) -> Result<(), OutOfMemory>
     ensures { OnOk result (out.new.items ≡ out.old.items ++ level_text level.now) }
 {
     out.extend_from_slice(b"level")?;
-    push_number_line(out, level.len() as u64)?;
+    print_number_line(out, level.len() as u64)?;
     for tuple in level {
         out.extend_from_slice(b"at")?;
-        push_words(out, tuple)?;
+        print_words(out, tuple)?;
     }
     Ok(())
 }
@@ -70,11 +70,11 @@ fn push_bound(out: &mut Vec<u8>, bound: Bound) -> Result<(), OutOfMemory>
     match bound {
         Bound::Length(length) => {
             out.extend_from_slice(b" length")?;
-            push_number_line(out, length as u64)
+            print_number_line(out, length as u64)
         }
         Bound::Level(limit) => {
             out.extend_from_slice(b" level")?;
-            push_number_line(out, limit as u64)
+            print_number_line(out, limit as u64)
         }
     }
 }
@@ -88,7 +88,7 @@ fn push_verdict(out: &mut Vec<u8>, verdict: &Verdict) -> Result<(), OutOfMemory>
     match verdict {
         Verdict::Yes(moves) => {
             out.extend_from_slice(b" yes\nmoves")?;
-            push_moves(out, moves.items())
+            print_moves(out, moves.items())
         }
         Verdict::NoLength(first, second) => {
             out.extend_from_slice(b" no length\n")?;
@@ -119,9 +119,9 @@ fn push_decided(
 {
     push_rank(out, first)?;
     out.extend_from_slice(b"first")?;
-    push_words(out, first)?;
+    print_words(out, first)?;
     out.extend_from_slice(b"second")?;
-    push_words(out, second)?;
+    print_words(out, second)?;
     out.extend_from_slice(b"verdict")?;
     push_verdict(out, verdict)
 }

@@ -1,17 +1,16 @@
 //! Reading of problems.
 ghost use Rattle.std.specs.Prelude.{◌≡◌, ◌<◌, ◌+◌, length, map, IfOk, IfErr, Ok, Err};
-ghost use Rattle.wh_text.specs.declared.read_error.ReadError.TheVariants.{InputTooLong};
-ghost use Rattle.wh_text.specs.Lines.{lines};
-ghost use Rattle.wh_text.specs.Readings.{Gives, Refuses};
+ghost use Rattle.wh_lines.specs.declared.read_error.ReadError.TheVariants.{InputTooLong};
+ghost use Rattle.wh_lines.specs.Lines.{lines};
+ghost use Rattle.wh_lines.specs.Readings.{Gives, Refuses};
 ghost use Rattle.wh_text.specs.Problems as spec;
 ghost use Rattle.wh_text.specs.Problems.{problem, problem_of, lines_at, most_bytes};
 
 use crate::command::Command;
-use crate::line::{after, before};
 use crate::problem::Problem;
-use crate::read_error::ReadError;
 use crate::sheet::Sheet;
 use std::alloc::Global;
+use wh_lines::{ReadError, after, before};
 use wh_words::Tuple;
 
 /// How many bytes the text of a problem may have.

@@ -1,18 +1,15 @@
 //! What the lines of a text tell, one after the other.
 ghost use Rattle.std.specs.Prelude.{◌≡◌, ◌<◌, ◌≤◌, ◌+◌, ◌^◌, ◌++◌, length, map, drop};
 ghost use Rattle.std.specs.List.{sum_by};
-ghost use Rattle.wh_text.specs.Scans.{bytes_within};
-ghost use Rattle.wh_text.specs.Readings.{Gives};
+ghost use Rattle.wh_lines.specs.Scans.{bytes_within};
+ghost use Rattle.wh_lines.specs.Readings.{Gives};
 ghost use Rattle.wh_text.specs.Problems as spec;
 
 use crate::command::Command;
-use crate::field::Field;
-use crate::kept_line::line_fields;
-use crate::number::canonical_number;
-use crate::read_error::ReadError;
-use crate::tuple_line::read_tuple;
 use std::alloc::Global;
 use std::marker::Model;
+use wh_fields::read_tuple;
+use wh_lines::{Field, ReadError, canonical_number, line_fields};
 use wh_words::{Rank, Tuple};
 
 /// What the lines so far have told.

@@ -1,17 +1,16 @@
 //! Reading of sides and levels.
 ghost use Rattle.std.specs.Prelude.{◌≡◌, map, IfOk, codes};
-ghost use Rattle.wh_text.specs.Readings.{Gives};
+ghost use Rattle.wh_lines.specs.Readings.{Gives};
 ghost use Rattle.wh_text.specs.AnswerData.{plains};
 ghost use Rattle.wh_text.specs.Certificates as spec;
 
 use crate::answer::Side;
 use crate::answer_line::{flows_after, like_after, moves_after, read_number, tuples_after};
-use crate::flow_field::FlowLine;
-use crate::kept_line::{Place, line_after};
-use crate::read_error::ReadError;
 use std::alloc::Global;
 use std::marker::Model;
+use wh_fields::FlowLine;
 use wh_flow::Flow;
+use wh_lines::{Place, ReadError, line_after};
 use wh_moves::Move;
 use wh_words::{Letter, List, OutOfMemory, Rank, Tuple};
 

@@ -1,6 +1,6 @@
 //! Reading of verdicts.
 ghost use Rattle.std.specs.Prelude.{◌≡◌, IfOk, ◌++◌};
-ghost use Rattle.wh_text.specs.Readings.{Gives};
+ghost use Rattle.wh_lines.specs.Readings.{Gives};
 ghost use Rattle.wh_text.specs.Certificates as spec;
 ghost use Rattle.wh_text.specs.AnswerData.{plains};
 ghost use Rattle.wh_text.specs.AnswerData.VerdictData.{no_level};
@@ -8,13 +8,10 @@ ghost use Rattle.wh_text.specs.VerdictWords.{word_of};
 
 use crate::answer::Verdict;
 use crate::answer_line::moves_after;
-use crate::field::Field;
-use crate::kept_line::{Place, line_after};
-use crate::number::canonical_number;
-use crate::read_error::ReadError;
 use crate::side_reading::{ReadSide, level_after, side_after};
 use std::alloc::Global;
 use std::marker::Model;
+use wh_lines::{Field, Place, ReadError, canonical_number, line_after};
 use wh_words::{Letter, List, OutOfMemory, Rank, Tuple};
 
 /// A verdict, and the letters and values that its `flow` lines name.

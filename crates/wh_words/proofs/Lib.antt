@@ -1,3 +1,4 @@
+pub mod Elements
 pub mod FreeReduction
 pub mod Turning
 pub mod Rotations

@@ -2,6 +2,7 @@
 use Rattle.std.specs.Prelude.{◌≡◌, ◌⊎◌, ℕ, ◌+◌, ◌<◌, ◌≤◌, List, [], ◌∷◌, ◌++◌, length, Contains}
 use Rattle.std.specs.List.{All, IsDistinct}
 use Rattle.std.specs.Ordering.{eq_by_cmp}
+use Rattle.wh_words.specs.Limits.{most_letters}
 use Rattle.wh_words.specs.Tuples.{TupleData, Tuple, tuple_length, tuple_cmp}
 use Rattle.wh_words.specs.Moves.{Move}
 use Rattle.wh_words.specs.Action.{act}
@@ -26,7 +27,7 @@ CountsTuples before after Passed = Unit {0}
 pub record HasRoomFor (scratch : Tuple) (t : TupleData) : Type 0 where
   pub letters : tuple_length t ≤ scratch.room
   pub words : length t.words ≤ scratch.word_room
-  pub short : tuple_length t ≤ 4096
+  pub short : tuple_length t ≤ most_letters
 
 -- More tuples are known, each an image of a tuple under a level move; and all such images are known, or more tuples than the limit.
 pub record HasMetImages (t : TupleData) (limit : ℕ) (old new : List TupleData) : Type 0 where

@@ -1,20 +1,31 @@
 //! Exploring a level on one thread.
-ghost use Rattle.std.specs.Prelude.{◌≡◌, ℕ, ◌+◌, ◌≤◌, length, map, IfOk, OnOk, IfSome};
-ghost use Rattle.std.specs.List.{All};
+ghost use Rattle.std.specs.Prelude.{◌≡◌, ℕ, ◌+◌, ◌<◌, ◌≤◌, length, map, IfOk, OnOk, IfSome};
+ghost use Rattle.std.specs.List.{All, IsDistinct};
+ghost use Rattle.std.specs.Bool.{MatchBool};
 ghost use Rattle.std.specs.Option.{MatchOption};
-ghost use Rattle.wh_words.specs.Tuples.{tuple_length};
+ghost use Rattle.std.specs.Ordering.{eq_by_cmp};
+ghost use Rattle.wh_words.specs.Limits.{most_level_rank};
+ghost use Rattle.wh_words.specs.Tuples.{tuple_cmp};
 ghost use Rattle.wh_words.specs.Levels.{InLevel, HasMoreThan};
 ghost use Rattle.wh_expand.specs.Rows.{IsRow, row_tuple};
 ghost use Rattle.wh_workers.specs.Explorations.{Explores, CountsTuples, HasRoomFor, HasMetImages, IsWhole};
 
 use crate::explored::Explored;
-use crate::known::KnownTuples;
 use std::alloc::Global;
 use std::sync::ledger::Ledger;
 use wh_expand::{Row, level_moves};
 use wh_level::{Sealed, seal};
 use wh_moves::act_into;
+use wh_sets::TupleSet;
 use wh_words::{OutOfMemory, Steps, Tuple};
+
+/// Whether more tuples than a limit are known.
+fn exceeds(known: &TupleSet, limit: u32) -> bool
+    ensures more { MatchBool result (limit < length known.now) (length known.now ≤ limit) }
+    ensures distinct { IsDistinct (eq_by_cmp tuple_cmp) known.now }
+{
+    known.len() > limit as usize
+}
 
 /// Meets the images of a tuple under its level moves, unless more tuples than the limit are known before the last.
 #[tactic(auto, using(crate::proofs::Meetings::move_rank, crate::proofs::Meetings::move_fits, crate::proofs::Meetings::meeting_start, crate::proofs::Meetings::meeting_more, crate::proofs::Meetings::meeting_past, crate::proofs::Meetings::meeting_end))]
@@ -22,7 +33,7 @@ fn meet_images(
     alloc: Global,
     row: &Row,
     limit: u32,
-    known: &mut KnownTuples,
+    known: &mut TupleSet,
     scratch: &mut Tuple,
 ) -> Result<(), OutOfMemory>
     requires row { IsRow row.now }
@@ -32,8 +43,8 @@ fn meet_images(
 {
     for m in row.moves.items() {
         act_into(&row.tuple, m, scratch);
-        known.meet(alloc, scratch)?;
-        if known.exceeds(limit) {
+        known.add(alloc, scratch)?;
+        if exceeds(known, limit) {
             return Ok(());
         }
     }
@@ -43,7 +54,7 @@ fn meet_images(
 /// The level whose rows these are.
 #[tactic(auto, using(crate::proofs::Wholes::whole_within, crate::proofs::Wholes::nothing_missed, crate::proofs::Wholes::whole_count))]
 fn closed(alloc: Global, root: &Tuple, rows: &[Row]) -> Result<Explored, OutOfMemory>
-    requires rank { root.now.plain.rank ≤ 6 }
+    requires rank { root.now.plain.rank ≤ most_level_rank }
     requires rows { All IsRow rows.now }
     requires whole { IsWhole root.now.plain (map row_tuple rows.now) }
     ensures explored { (limit : ℕ) → length rows.now ≤ limit → IfOk result (Explores root.now.plain limit) }
@@ -61,20 +72,22 @@ fn all_rows<L: Ledger>(
     alloc: Global,
     root: &Tuple,
     limit: u32,
-    known: &mut KnownTuples,
+    known: &mut TupleSet,
     scratch: &mut Tuple,
     steps: &mut Steps<L>,
 ) -> Result<Option<Vec<Row>>, OutOfMemory>
-    requires rank { root.now.plain.rank ≤ 6 }
+    requires rank { root.now.plain.rank ≤ most_level_rank }
     requires none_known { length known.old ≡ 0 }
     requires room { HasRoomFor scratch.old root.now.plain }
     ensures rows { IfOk result (λ o. MatchOption o (HasMoreThan root.now.plain limit) (λ rows. All IsRow rows.items × IsWhole root.now.plain (map row_tuple rows.items) × (length rows.items ≤ limit))) }
     ensures steps { IfOk result (λ o. IfSome o (λ rows. steps.new ≡ steps.old + length rows.items)) }
+    ensures counted { steps.old ≤ steps.new }
+    ensures bounded { steps.new ≤ steps.old + limit }
 {
-    known.meet(alloc, root)?;
+    known.add(alloc, root)?;
     let mut rows = Vec::new(alloc);
     'expand: while rows.len() < known.len() {
-        if known.exceeds(limit) {
+        if exceeds(known, limit) {
             return Ok(None);
         }
         let row = level_moves(alloc, known.tuple(rows.len()), steps)?;
@@ -85,19 +98,22 @@ fn all_rows<L: Ledger>(
 }
 
 /// The level of a root of rank 6 at most, or `Passed`, which comes exactly where it has more tuples than the limit. Each
-/// tuple is expanded once, so that a level that is answered took one step for each of its tuples (Lyndon and Schupp, I.4).
+/// tuple is expanded once, so that a level that is answered took one step for each of its tuples; whatever is answered, it
+/// took at most as many steps as the limit says (Lyndon and Schupp, I.4).
 pub fn explore_one<L: Ledger>(
     alloc: Global,
     root: &Tuple,
     limit: u32,
     steps: &mut Steps<L>,
 ) -> Result<Explored, OutOfMemory>
-    requires { root.now.plain.rank ≤ 6 }
+    requires { root.now.plain.rank ≤ most_level_rank }
     ensures explored { IfOk result (Explores root.now.plain limit) }
     ensures steps { IfOk result (CountsTuples steps.old steps.new) }
+    ensures counted { steps.old ≤ steps.new }
+    ensures bounded { steps.new ≤ steps.old + limit }
 {
     let mut scratch = Tuple::with_room(alloc, root.rank(), root.count(), root.length() as usize)?;
-    let mut known = KnownTuples::new(alloc);
+    let mut known = TupleSet::new(alloc);
     let rows = all_rows(alloc, root, limit, &mut known, &mut scratch, steps);
     drop(known);
     match rows? {

@@ -9,7 +9,7 @@ use Rattle.wh_text.specs.declared.command.Command.{Command}
 use Rattle.wh_text.specs.declared.answer.Answer as answers
 use Rattle.wh_text.specs.declared.answer.Answer.TheVariants.{Reduce, Decide}
 use Rattle.wh_text.specs.declared.answer.Verdict.TheVariants as verdicts
-use Rattle.wh_text.specs.Numbers.{number}
+use Rattle.wh_lines.specs.Numbers.{number}
 use Rattle.wh_text.specs.Problems.{ProblemData, problem}
 use Rattle.wh_text.specs.AnswerTexts.{answer_text}
 use Rattle.wh_text.specs.AnswerData.{answer_of}

@@ -4,13 +4,13 @@ use Rattle.wh_words.specs.Tuples.{TupleData, IsTuple}
 use Rattle.wh_words.proofs.StoredWords.{IsTuple-of}
 use Rattle.wh_text.specs.declared.command.Command.{Command}
 use Rattle.wh_text.specs.declared.command.Command.TheVariants as commands
-use Rattle.wh_text.specs.declared.read_error.ReadError.TheVariants as errors
-use Rattle.wh_text.specs.Lines.{lines}
-use Rattle.wh_text.specs.Readings.{◌>>=◌}
+use Rattle.wh_lines.specs.declared.read_error.ReadError.TheVariants as errors
+use Rattle.wh_lines.specs.Lines.{lines}
+use Rattle.wh_lines.specs.Readings.{◌>>=◌}
 use Rattle.wh_text.specs.Problems.{ProblemData, problem, problem_with, whole, lines_at, blank_sheet, most_bytes, one_tuple, two_tuples, decide_both}
 use Rattle.wh_text.specs.Problems.ProblemData.{reduce, decide}
 use Rattle.wh_text.specs.Laws.{IsTupleLine}
-use Rattle.wh_text.proofs.Equations.{bind_ok, ok_is, if_ok, unless_ok}
+use Rattle.wh_lines.proofs.Equations.{bind_ok, ok_is, if_ok, unless_ok}
 use Rattle.wh_text.proofs.TextLaws.{reads_reduce_texts, reads_decide_texts}
 use Rattle.wh_answer.specs.Answers.{IsAnswerable}
 use Rattle.wh_answer.specs.Laws.{IsProblem}

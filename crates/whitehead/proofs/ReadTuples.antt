@@ -6,21 +6,21 @@ use Rattle.wh_words.specs.Tuples.{TupleData, IsTuple}
 use Rattle.wh_words.proofs.StoredWords.{IsTuple-of}
 use Rattle.wh_text.specs.declared.command.Command.{Command}
 use Rattle.wh_text.specs.declared.command.Command.TheVariants as commands
-use Rattle.wh_text.specs.declared.read_error.ReadError.{ReadError}
-use Rattle.wh_text.specs.declared.read_error.ReadError.TheVariants as errors
-use Rattle.wh_text.specs.Lines.{Field, lines}
-use Rattle.wh_text.specs.Readings.{◌>>=◌}
-use Rattle.wh_text.specs.TupleLines.{tuple_at}
+use Rattle.wh_lines.specs.declared.read_error.ReadError.{ReadError}
+use Rattle.wh_lines.specs.declared.read_error.ReadError.TheVariants as errors
+use Rattle.wh_lines.specs.Lines.{Field, lines}
+use Rattle.wh_lines.specs.Readings.{◌>>=◌, or_bad_line}
+use Rattle.wh_fields.specs.TupleFields.{tuple_at}
 use Rattle.wh_text.specs.Problems.{greatest_rank, allowed_rank}
-use Rattle.wh_text.specs.KeptLines.{Place, Kept, line_after, times, kept_numbers}
+use Rattle.wh_lines.specs.KeptLines.{Place, Kept, line_after, times, kept_numbers}
 use Rattle.wh_text.specs.AnswerData.{CertificateData}
 use Rattle.wh_text.specs.AnswerData.VerdictData.{yes, no_length, no_level}
 use Rattle.wh_text.specs.AnswerData.AnswerData.{reduce, decide}
-use Rattle.wh_text.specs.Certificates.{most_certificate_bytes, or_bad_line, or_bad_tuple, number_in, tuple_after, like_after, moves_after, flow_after, SideRead, side_with, side_after, level_after, VerdictWord, VerdictRead, sides_after, verdict_in, verdict_with, verdict_after, AnswerRead, reduced_after, decided_after, answer_with, heading_after, rank_after, done_after, answer_after, certificate}
+use Rattle.wh_text.specs.Certificates.{most_certificate_bytes, or_bad_tuple, number_in, tuple_after, like_after, moves_after, flow_after, SideRead, side_with, side_after, level_after, VerdictWord, VerdictRead, sides_after, verdict_in, verdict_with, verdict_after, AnswerRead, reduced_after, decided_after, answer_with, heading_after, rank_after, done_after, answer_after, certificate}
 use Rattle.wh_text.specs.Certificates.VerdictWord.{a_yes, a_no_length, a_no_level}
-use Rattle.wh_text.proofs.Equations.{bind_ok, ok_is, ok_same, unless_ok, if_ok}
-use Rattle.wh_text.proofs.Items.{words_read}
-use Rattle.wh_text.proofs.TupleLaws.{tuple_made}
+use Rattle.wh_lines.proofs.Equations.{bind_ok, ok_is, ok_same, unless_ok, if_ok}
+use Rattle.wh_fields.proofs.WordReadings.{words_read}
+use Rattle.wh_fields.proofs.TupleLaws.{tuple_made}
 use Rattle.wh_answer.specs.Certified.{EndsAreTuples, HasTuples}
 
 -- ---- tuples

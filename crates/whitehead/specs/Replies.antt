@@ -4,7 +4,7 @@ use Rattle.wh_text.specs.declared.command.Command.{Command}
 use Rattle.wh_text.specs.declared.status.Status.{Status}
 use Rattle.wh_text.specs.declared.status.Status.TheVariants.{Refused}
 use Rattle.wh_text.specs.declared.answer.Answer as answers
-use Rattle.wh_text.specs.declared.read_error.ReadError.{ReadError}
+use Rattle.wh_lines.specs.declared.read_error.ReadError.{ReadError}
 use Rattle.wh_text.specs.Problems.{ProblemData, problem}
 use Rattle.wh_text.specs.AnswerTexts.{answer_text}
 use Rattle.wh_text.specs.Statuses.{answer_status}

@@ -3,7 +3,7 @@ ghost use Rattle.std.specs.Prelude.{◌≡◌, ◌≢◌, ℕ, IfOk, Ok};
 ghost use Rattle.std.specs.Prelude as prelude;
 ghost use Rattle.wh_text.specs.declared.command.Command.{Command};
 ghost use Rattle.wh_text.specs.declared.status.Status.TheVariants.{Refused};
-ghost use Rattle.wh_text.specs.declared.read_error.ReadError.TheVariants as errors;
+ghost use Rattle.wh_lines.specs.declared.read_error.ReadError.TheVariants as errors;
 ghost use Rattle.wh_text.specs.Problems.{problem_of, problem as stated};
 ghost use Rattle.wh_text.specs.AnswerTexts.{answer_text, IsPrintable};
 ghost use Rattle.wh_text.specs.AnswerData.{certificate_of};

@@ -1,8 +1,8 @@
 use Rattle.std.proofs.Common.{◌≡◌, arith, rules, Ok}
 use Rattle.std.proofs.lemmas.Result.{err_from_is_err_and}
-use Rattle.wh_text.specs.KeptLines.{times}
+use Rattle.wh_lines.specs.KeptLines.{times}
 use Rattle.wh_text.specs.Certificates.{flow_after}
-use Rattle.wh_text.proofs.Times.{times_more, times_fail, times_start, times_end}
+use Rattle.wh_lines.proofs.Times.{times_more, times_fail, times_start, times_end}
 use Rattle.wh_text.proofs.answer_line.flows_after.Goals as goal
 
 pub loop-init : goal.loop-init

@@ -1,7 +1,7 @@
 use Rattle.std.proofs.Common.{◌≡◌, ◌-◌}
-use Rattle.wh_text.specs.KeptLines.{times}
+use Rattle.wh_lines.specs.KeptLines.{times}
 use Rattle.wh_text.specs.Certificates.{flow_after}
-use Rattle.wh_text.proofs.Times.{times_front}
+use Rattle.wh_lines.proofs.Times.{times_front}
 use Rattle.wh_text.proofs.answer_line.flows_after.Given as goal
 
 abbrev pub invariant-loop : goal.invariant-loop

@@ -3,9 +3,9 @@ use Rattle.std.specs.Prelude.{codes}
 use Rattle.std.proofs.lemmas.List.{map-append}
 use Rattle.std.proofs.lemmas.Result.{err_from_is_err_and}
 use Rattle.wh_words.specs.Tuples.{Tuple, TupleData}
-use Rattle.wh_text.specs.KeptLines.{times}
+use Rattle.wh_lines.specs.KeptLines.{times}
 use Rattle.wh_text.specs.Certificates.{like_after}
-use Rattle.wh_text.proofs.Times.{times_front, times_more, times_fail, times_start, times_end}
+use Rattle.wh_lines.proofs.Times.{times_front, times_more, times_fail, times_start, times_end}
 use Rattle.wh_text.proofs.answer_line.tuples_after.Goals as goal
 
 pub loop-init : goal.loop-init

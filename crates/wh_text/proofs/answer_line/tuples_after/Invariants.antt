@@ -1,9 +1,9 @@
 use Rattle.std.proofs.Common.{◌≡◌, ◌-◌, map}
 use Rattle.std.specs.Prelude.{codes}
 use Rattle.wh_words.specs.Tuples.{Tuple}
-use Rattle.wh_text.specs.KeptLines.{times}
+use Rattle.wh_lines.specs.KeptLines.{times}
 use Rattle.wh_text.specs.Certificates.{like_after}
-use Rattle.wh_text.proofs.Times.{times_front}
+use Rattle.wh_lines.proofs.Times.{times_front}
 use Rattle.wh_text.proofs.answer_line.tuples_after.Given as goal
 
 abbrev pub invariant-loop : goal.invariant-loop

@@ -1,9 +1,9 @@
 use Rattle.std.proofs.Common.{◌≡◌, ◌+◌, ◌<◌, ap, arith, rules, length}
 use Rattle.std.proofs.lemmas.List.{length-drop}
-use Rattle.wh_text.specs.Lines.{lines}
-use Rattle.wh_text.specs.Scans.{before}
-use Rattle.wh_text.specs.KeptLines.{kept_numbers}
-use Rattle.wh_text.proofs.LineNumbers.{numbers_more}
+use Rattle.wh_lines.specs.Lines.{lines}
+use Rattle.wh_lines.specs.Scans.{before}
+use Rattle.wh_lines.specs.KeptLines.{kept_numbers}
+use Rattle.wh_lines.proofs.LineNumbers.{numbers_more}
 use Rattle.wh_text.proofs.certificate.line_numbers.Goals as goal
 
 pub lines-preserved : goal.lines-preserved

@@ -1,6 +1,6 @@
 use Rattle.std.proofs.Common.{◌≡◌, ◌+◌, ◌≤◌, ◌++◌, length}
-use Rattle.wh_text.specs.Lines.{lines}
-use Rattle.wh_text.specs.KeptLines.{kept_numbers}
+use Rattle.wh_lines.specs.Lines.{lines}
+use Rattle.wh_lines.specs.KeptLines.{kept_numbers}
 use Rattle.wh_text.specs.Certificates.{most_certificate_bytes}
 use Rattle.wh_text.proofs.certificate.line_numbers.Given as goal
 

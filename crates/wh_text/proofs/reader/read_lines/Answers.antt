@@ -1,9 +1,9 @@
 use Rattle.std.proofs.Common.{rules, ◌≡◌, arith, ap, subst, length, take, drop, Ok}
 use Rattle.std.proofs.lemmas.List.{length-drop}
 use Rattle.std.proofs.lemmas.Result.{err_from_is_err_and}
-use Rattle.wh_text.specs.Lines.{lines}
-use Rattle.wh_text.specs.Scans.{before}
-use Rattle.wh_text.specs.Readings.{Refuses}
+use Rattle.wh_lines.specs.Lines.{lines}
+use Rattle.wh_lines.specs.Scans.{before}
+use Rattle.wh_lines.specs.Readings.{Refuses}
 use Rattle.wh_text.specs.Problems.{line_at, lines_at, blank_sheet}
 use Rattle.wh_text.proofs.Sheets.{lines_more, lines_fail}
 use Rattle.wh_text.proofs.reader.read_lines.Goals as goal

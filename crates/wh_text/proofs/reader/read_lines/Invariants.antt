@@ -1,5 +1,5 @@
 use Rattle.std.proofs.Common.{◌≡◌, ◌+◌, ◌-◌, ◌≤◌, length, drop}
-use Rattle.wh_text.specs.Lines.{lines}
+use Rattle.wh_lines.specs.Lines.{lines}
 use Rattle.wh_text.specs.Problems.{lines_at, blank_sheet}
 use Rattle.wh_text.proofs.reader.read_lines.Given as goal
 

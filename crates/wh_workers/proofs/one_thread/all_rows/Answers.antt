@@ -6,7 +6,7 @@ use Rattle.wh_workers.proofs.one_thread.all_rows.Goals as goal
 
 pub expand-init : goal.expand-init
 expand-init g c = (
-  exploring_start c.args.root.now.plain c.args.limit c.args.known.now c.meet.new.self c.new-rows.result.items c.requires.none_known c.in_ok-meet.ensures c.new-rows.ensures.items,
+  exploring_start c.args.root.now.plain c.args.limit c.args.known.now c.add.new.self c.new-rows.result.items c.requires.none_known c.in_ok-add.ensures.added c.new-rows.ensures.items,
   c.requires.room,
   omega (arith, ap length c.new-rows.ensures.items),
 )

@@ -1,0 +1,12 @@
+pub mod WordReadings
+pub mod WordLaws
+pub mod TupleLaws
+pub mod LetterMasks
+pub mod PairTables
+pub mod SetTexts
+pub mod RepeatedTexts
+pub mod ItemRuns
+pub mod FieldRows
+pub mod ShownFields
+pub mod ReadMoves
+pub mod ReadFlows

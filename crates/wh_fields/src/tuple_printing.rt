@@ -1,0 +1,41 @@
+//! Printing of tuples.
+ghost use Rattle.std.specs.Prelude.{◌≡◌, ◌++◌, map, OnOk};
+ghost use Rattle.wh_fields.specs.Words.{letter_text};
+ghost use Rattle.wh_fields.specs.TupleFields.{word_field, words_text};
+
+use crate::letter::letter_byte;
+use wh_words::{Letter, OutOfMemory, Tuple};
+
+/// Writes the letters of a word.
+fn print_letters(out: &mut Vec<u8>, word: &[Letter]) -> Result<(), OutOfMemory>
+    ensures { OnOk result (out.new.items ≡ out.old.items ++ map letter_text word.now) }
+{
+    for x in word {
+        out.push(letter_byte(*x))?;
+    }
+    Ok(())
+}
+
+/// Writes a word as a field.
+fn print_word(out: &mut Vec<u8>, word: &[Letter]) -> Result<(), OutOfMemory>
+    ensures { OnOk result (out.new.items ≡ out.old.items ++ word_field word.now) }
+{
+    out.push(b' ')?;
+    if word.is_empty() {
+        out.push(b'1')?;
+        Ok(())
+    } else {
+        print_letters(out, word)
+    }
+}
+
+/// Writes the words of a tuple as fields, and the end of the line.
+pub fn print_words(out: &mut Vec<u8>, tuple: &Tuple) -> Result<(), OutOfMemory>
+    ensures { OnOk result (out.new.items ≡ out.old.items ++ words_text tuple.now.plain.words) }
+{
+    for place in 0..tuple.count() {
+        print_word(out, tuple.word(place))?;
+    }
+    out.push(b'\n')?;
+    Ok(())
+}

@@ -1,0 +1,16 @@
+pub mod Scanning
+pub mod LineCuts
+pub mod FieldCuts
+pub mod Equations
+pub mod Digits
+pub mod ItemReadings
+pub mod SkippedLines
+pub mod KeptSteps
+pub mod Times
+pub mod LineNumbers
+pub mod NumberLaws
+pub mod LineLaws
+pub mod FieldLaws
+pub mod PrintedRows
+pub mod RowReadings
+pub mod TakenLines

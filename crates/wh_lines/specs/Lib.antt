@@ -1,0 +1,8 @@
+-- Lines and fields: what the bytes of a text are before anybody asks what they tell.
+pub mod Lines
+pub mod Readings
+pub mod Numbers
+pub mod KeptLines
+pub mod Laws
+-- How this crate goes through the bytes of a line.
+pub mod Scans
