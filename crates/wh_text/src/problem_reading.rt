@@ -1,37 +1,47 @@
 //! Reading of problems.
-ghost use Rattle.std.specs.Prelude.{◌≡◌, ◌<◌, ◌+◌, length, map, IfOk, IfErr, Ok, Err};
+ghost use Rattle.std.specs.Prelude.{◌≡◌, ◌<◌, ◌^◌, length, map, IfOk, IfErr, Ok, Err};
 ghost use Rattle.wh_lines.specs.declared.read_error.ReadError.TheVariants.{InputTooLong};
-ghost use Rattle.wh_lines.specs.Lines.{lines};
 ghost use Rattle.wh_lines.specs.Readings.{Gives, Refuses};
 ghost use Rattle.wh_text.specs.Problems as spec;
-ghost use Rattle.wh_text.specs.Problems.{problem, problem_of, lines_at, most_bytes};
+ghost use Rattle.wh_text.specs.Problems.{problem, problem_of, most_bytes};
 
 use crate::command::Command;
 use crate::problem::Problem;
-use crate::sheet::Sheet;
+use crate::rank_line::read_rank;
 use std::alloc::Global;
-use wh_lines::{ReadError, after, before};
-use wh_words::Tuple;
+use wh_fields::read_tuple;
+use wh_lines::{Kept, Next, ReadError, Reader};
+use wh_words::{Rank, Tuple};
 
 /// How many bytes the text of a problem may have.
 const MOST_BYTES: usize = 1048576;
 
-/// What all lines tell, and the place past the end.
-#[tactic(auto, using(crate::proofs::Sheets::lines_end))]
-fn read_lines(alloc: Global, command: Command, bytes: &[u8]) -> Result<(Sheet, u64), ReadError>
-    ensures { Gives (λ s. s) result (lines_at command 1 spec.blank_sheet (lines bytes.now)) }
+/// The tuple of a line. BadLine comes where its keyword is another one.
+fn read_tuple_line(alloc: Global, rank: Rank, kept: &Kept) -> Result<Tuple, ReadError>
+    ensures { Gives (λ t. t.plain) result (spec.tuple_line rank kept.now) }
 {
-    let mut sheet = Sheet::new(alloc);
-    let mut line = 1;
-    let mut at = 0;
-    while at < bytes.len() {
-        let rest = after(bytes, at);
-        let count = before(b'\n', rest);
-        sheet = sheet.read_line(alloc, command, line, &rest[..count])?;
-        at += count + 1;
-        line += 1;
+    let line = kept.number() as u64;
+    if !kept.has_keyword(b"tuple") {
+        return Err(ReadError::BadLine { line });
     }
-    Ok((sheet, line))
+    read_tuple(alloc, rank, line, kept.fields())
+}
+
+/// The tuples of all lines that are left.
+fn read_tuples(alloc: Global, rank: Rank, reader: &mut Reader) -> Result<Vec<Tuple>, ReadError>
+    ensures { Gives (λ v. map (λ t. t.plain) v.items) result (spec.tuples_of rank reader.old.rest) }
+{
+    let mut tuples = Vec::new(alloc);
+    'lines: loop {
+        let next = reader.next_line()?;
+        match next {
+            Next::Line(kept) => {
+                let tuple = read_tuple_line(alloc, rank, &kept)?;
+                tuples.push(tuple)?;
+            }
+            Next::End(_) => return Ok(tuples),
+        }
+    }
 }
 
 /// The one tuple of a problem that has one, or TupleCount.
@@ -77,14 +87,10 @@ fn decide_both(first: Tuple, second: Tuple) -> Result<Problem, ReadError>
     Ok(Problem::Decide { first, second })
 }
 
-/// The problem that all lines tell, or the first refusal of the whole.
-fn whole(command: Command, end: u64, sheet: Sheet) -> Result<Problem, ReadError>
-    ensures { Gives problem_of result (spec.whole command end sheet.tuples sheet.rank) }
+/// The problem that a command has with these tuples, or the first refusal of the whole.
+fn problem_with(command: Command, tuples: Vec<Tuple>) -> Result<Problem, ReadError>
+    ensures { Gives problem_of result (spec.problem_with command (map (λ t. t.plain) tuples.items)) }
 {
-    let (rank, tuples) = sheet.into_parts();
-    if rank.is_none() {
-        return Err(ReadError::NoRank { line: end });
-    }
     match command {
         Command::Reduce => Ok(Problem::Reduce {
             tuple: one_tuple(tuples)?,
@@ -94,6 +100,16 @@ fn whole(command: Command, end: u64, sheet: Sheet) -> Result<Problem, ReadError>
             decide_both(first, second)
         }
     }
+}
+
+/// The problem that the lines of a text state.
+#[tactic(auto, unfolding(crate::specs::Problems::problem_after))]
+fn problem_after(alloc: Global, command: Command, reader: &mut Reader) -> Result<Problem, ReadError>
+    ensures { Gives problem_of result (spec.problem_after command reader.old) }
+{
+    let rank = read_rank(command, reader)?;
+    let tuples = read_tuples(alloc, rank, reader)?;
+    problem_with(command, tuples)
 }
 
 /// The problem of `command` that a text states. A refusal is the first that is met: the size of the text comes first,
@@ -110,6 +126,5 @@ pub fn read_problem(alloc: Global, command: Command, bytes: &[u8]) -> Result<Pro
             limit: MOST_BYTES as u64,
         });
     }
-    let (sheet, end) = read_lines(alloc, command, bytes)?;
-    whole(command, end, sheet)
+    problem_after(alloc, command, &mut Reader::new(alloc, bytes))
 }
