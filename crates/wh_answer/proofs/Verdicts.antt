@@ -1,5 +1,6 @@
 -- The verdict in each case, and that the moves of a yes carry the first tuple onto the second.
 use Rattle.std.proofs.Common.{◌≡◌, ◌≢◌, ℕ, ◌<◌, ◌≤◌, List, [], ◌∷◌, ◌++◌, length, map, refl, sym, ap, ◌∙◌, subst, arith}
+use Rattle.std.proofs.lemmas.List.{length-map}
 use Rattle.wh_words.specs.Limits.{most_level_length}
 use Rattle.wh_words.specs.Tuples.{TupleData, Tuple, tuple_length}
 use Rattle.wh_words.specs.Moves.{Move}
@@ -16,6 +17,8 @@ use Rattle.wh_text.specs.declared.answer.Verdict.TheVariants.{Yes, NoLength, NoL
 use Rattle.wh_answer.specs.Answers.{IsSideOf, EndApart, IsVerdict}
 use Rattle.wh_answer.specs.Answers.Decides.{other_lengths, one_end, too_long, too_many, joined, off_level}
 use Rattle.wh_answer.specs.Traced.{AreTraced, AreApart}
+use Rattle.wh_answer.specs.Findings.{Finds}
+use Rattle.wh_answer.specs.declared.finding.Finding.TheVariants as findings
 use Rattle.wh_answer.proofs.Inverses.{act_all-append, trace_leads, walk_leads, trace_back}
 
 -- A trace keeps the rank.
@@ -81,3 +84,14 @@ undecided_length limit s t first second n traced apart e long =
 
 pub undecided_level : (limit : ℕ) (s t : TupleData) (first second : Trace) → AreTraced s t first second → AreApart first second → tuple_length first.end.plain ≤ most_level_length → HasMoreThan first.end.plain limit → IsVerdict limit s t (Undecided (Level limit))
 undecided_level limit s t first second traced apart low more = (too_many (ends_apart s t first second traced apart) low more, tt)
+
+-- The second end isn't in the level of the first.
+pub found_off : (limit : ℕ) (first second : Trace) (level : LevelData) (ts : List Tuple) → AreApart first second → tuple_length first.end.plain ≤ most_level_length → IsClosed level → level.root ≡ first.end.plain →
+    length level.tuples ≤ limit → ¬ (InLevel level.root second.end.plain) → map (λ u. u.plain) ts ≡ level.tuples → Finds limit first second (findings.Level ts)
+found_off limit first second level ts apart low closed e few off same = (
+  apart,
+  low,
+  subst (λ us. IsLevel first.end.plain us) (sym same) (subst (λ u. IsLevel u level.tuples) e closed.level),
+  omega (arith, few, ap length same, length-map ts (λ (u : Tuple). u.plain)),
+  λ reached. off (subst (λ u. InLevel u second.end.plain) (sym e) reached),
+)

@@ -5,7 +5,8 @@ use Rattle.std.proofs.lemmas.Bool.{eqb-true, false≢true}
 use Rattle.std.proofs.lemmas.Bool.Decides.{nat_tests}
 use Rattle.wh_lines.specs.declared.read_error.ReadError.{ReadError}
 use Rattle.wh_lines.specs.Lines.{Field, are}
-use Rattle.wh_lines.specs.Readings.{◌>>=◌}
+use Rattle.wh_lines.specs.declared.read_error.ReadError.TheVariants as errors
+use Rattle.wh_lines.specs.Readings.{◌>>=◌, Refuses, refused_as}
 use Rattle.wh_lines.proofs.Scanning.{eq_true}
 
 pub bind_ok : {A B : Type 0} (r : Result A ReadError) (f : A → Result B ReadError) (y : B) → (r >>= f) ≡ Ok y → (x : A) × (r ≡ Ok x) × (f x ≡ Ok y)
@@ -67,3 +68,11 @@ split_fields (f ∷ fs) w ws e = (f, fs, refl, (cc), (cc))
 pub no_fields : (fs : List Field) → map (λ f. f.bytes) fs ≡ [] → fs ≡ []
 no_fields [] e = refl
 no_fields (f ∷ fs) e = absurd (cc)
+
+-- ---- refusals that are told in another way
+pub refused_ok : {A : Type 0} (change : ReadError → ReadError) (r : Result A ReadError) (x : A) → refused_as change r ≡ Ok x → r ≡ Ok x
+refused_ok change (Ok y) x e = e
+refused_ok change (Err d) x e = absurd (cc)
+
+pub refused_by : {A : Type 0} (change : ReadError → ReadError) (r : Result A ReadError) (e : ReadError) → change errors.OutOfMemory ≡ errors.OutOfMemory → Refuses r e → Refuses (refused_as change r) (change e)
+refused_by change r e keeps h = λ known. ap (refused_as change) (h (λ memory. known (ap change memory ∙ keeps)))

@@ -6,11 +6,13 @@ pub mod Digits
 pub mod ItemReadings
 pub mod SkippedLines
 pub mod KeptSteps
+pub mod NextLines
 pub mod Times
-pub mod LineNumbers
 pub mod NumberLaws
 pub mod LineLaws
 pub mod FieldLaws
 pub mod PrintedRows
 pub mod RowReadings
+pub mod RestRows
+pub mod BadBytes
 pub mod TakenLines

@@ -6,13 +6,11 @@ use Rattle.std.proofs.lemmas.List.Elements.{All-nil, All-cons, All-head, All-tai
 use Rattle.std.proofs.lemmas.Bool.{cond-false}
 use Rattle.std.proofs.lemmas.Bool.Decides.{nat_tests}
 use Rattle.wh_lines.specs.Lines.{lines, is_allowed, is_comment, fields}
-use Rattle.wh_lines.specs.KeptLines.{good_fields, line_fields, is_skipped, kept_numbers, numbers_from}
-use Rattle.wh_lines.specs.Laws.{IsLine, IsClean, IsField, HasFields, ended}
+use Rattle.wh_lines.specs.Laws.{is_skipped, IsLine, IsClean, IsField, HasFields, ended}
 use Rattle.wh_lines.specs.Laws.HasFields.{last, field}
 use Rattle.wh_lines.proofs.Scanning.{eq_false}
 use Rattle.wh_lines.proofs.LineLaws.{reads_lines}
 use Rattle.wh_lines.proofs.FieldLaws.{reads_fields}
-use Rattle.wh_lines.proofs.SkippedLines.{clean_bad}
 
 -- A keyword, and the fields after it.
 pub record Row : Type 0 where
@@ -58,7 +56,7 @@ row_all P space shown r h =
 shown_allowed : (b : ℕ) → IsShownByte b → is_allowed b ≡ true
 shown_allowed b h = grind (arith, nat_tests)
 
-row_clean : (r : Row) → IsShownRow r → IsClean (row_text r)
+pub row_clean : (r : Row) → IsShownRow r → IsClean (row_text r)
 row_clean r h = row_all (λ b. is_allowed b ≡ true) refl shown_allowed r h
 
 row_line : (r : Row) → IsShownRow r → IsLine (row_text r)
@@ -84,27 +82,14 @@ not_blank : (keyword rest : List ℕ) → IsShown keyword → list_all (λ b. b 
 not_blank [] rest h = absurd (h.some refl)
 not_blank (b ∷ bs) rest h = ap (λ t. t && list_all (λ b. b == 32) (bs ++ rest)) (eq_false b 32 (λ e. omega (arith, (All-head IsShownByte b bs h.bytes).0, e)))
 
-row_kept : (r : Row) → IsShownRow r → is_skipped (row_text r) ≡ false
+pub row_kept : (r : Row) → IsShownRow r → is_skipped (row_text r) ≡ false
 row_kept r h =
     let rest = flat_map spaced r.fields in
     ap (λ t. t || list_all (λ b. b == 32) (r.keyword ++ rest)) (no_comment r.keyword rest h.keyword) ∙ not_blank r.keyword rest h.keyword
 
-pub row_read : (l : ℕ) (r : Row) → IsShownRow r → line_fields l (row_text r) ≡ Ok (fields 1 (row_text r))
-unfolding line_fields
-row_read l r h =
-    ap (good_fields l (row_text r)) (clean_bad 1 (row_text r) (row_clean r h))
-    ∙ ap (λ fs. Ok fs) (cond-false (is_comment (row_text r)) [] (fields 1 (row_text r)) (no_comment r.keyword (flat_map spaced r.fields) h.keyword))
-
 -- ---- the lines of rows
 pub rows_lines : (rows : List Row) → All IsShownRow rows → lines (rows_text rows) ≡ map row_text rows
 rows_lines rows a = reads_lines.whole (map row_text rows) (All-map IsLine row_text rows (All-weaker IsShownRow (λ r. IsLine (row_text r)) row_line rows a))
-
-pub rows_numbers : (l : ℕ) (rows : List Row) → All IsShownRow rows → kept_numbers l (map row_text rows) ≡ numbers_from l (length (map row_text rows))
-rows_numbers l [] a = refl
-rows_numbers l (r ∷ rows) a =
-    let later = kept_numbers (l + 1) (map row_text rows) in
-    cond-false (is_skipped (row_text r)) later (l ∷ later) (row_kept r (All-head IsShownRow r rows a))
-    ∙ ap (λ ns. l ∷ ns) (rows_numbers (l + 1) rows (All-tail IsShownRow r rows a))
 
 abbrev pub number_row : List ℕ → ℕ → Row
 number_row keyword n = record { keyword = keyword; fields = decimal n ∷ [] }

@@ -6,8 +6,7 @@ use Rattle.std.specs.List.{list_all}
 use Rattle.std.proofs.lemmas.List.Elements.{All-nil, All-cons, All-head, All-tail}
 use Rattle.std.proofs.lemmas.Bool.{cases_Bool, cond-true, cond-false, cond_both}
 use Rattle.wh_lines.specs.Lines.{Field, is_allowed, bad_at, is_comment, joined, fields}
-use Rattle.wh_lines.specs.KeptLines.{is_skipped}
-use Rattle.wh_lines.specs.Laws.{IsClean}
+use Rattle.wh_lines.specs.Laws.{IsClean, is_skipped}
 
 -- ---- a line
 pub bad_clean : (c : ℕ) (line : List ℕ) → bad_at c line ≡ None → IsClean line

@@ -1,8 +1,7 @@
 -- The laws of reading, in the words of what is written: what is read is spelled so, and what is spelled so is read.
-use Rattle.std.specs.Prelude.{◌≡◌, ◌≢◌, ℕ, ◌+◌, ◌^◌, ◌<◌, ◌↔◌, true, cond, List, [], ◌∷◌, ◌++◌, map, Some, decimal}
-use Rattle.std.specs.List.{All}
-use Rattle.wh_lines.specs.Lines.{lines, fields, is_allowed}
-use Rattle.wh_lines.specs.KeptLines.{is_skipped}
+use Rattle.std.specs.Prelude.{◌≡◌, ◌≢◌, ◌==◌, ◌||◌, Bool, ℕ, zero, suc, ◌+◌, ◌^◌, ◌<◌, ◌↔◌, true, cond, List, [], ◌∷◌, ◌++◌, map, Some, decimal}
+use Rattle.std.specs.List.{All, list_all}
+use Rattle.wh_lines.specs.Lines.{lines, fields, is_allowed, is_comment}
 use Rattle.wh_lines.specs.Numbers.{number}
 
 -- ---- fields
@@ -46,6 +45,10 @@ abbrev pub ReadsFields : Type 0
 ReadsFields = (fs : List (List ℕ)) (line : List ℕ) → (field_texts line ≡ fs) ↔ HasFields fs line
 
 -- ---- texts
+-- Whether a line is skipped: it begins with `#`, or has no bytes but spaces.
+abbrev pub is_skipped : List ℕ → Bool
+is_skipped line = is_comment line || list_all (λ b. b == 32) line
+
 -- The lines that aren't skipped.
 abbrev pub kept_lines : List (List ℕ) → List (List ℕ)
 kept_lines [] = []
@@ -54,3 +57,8 @@ kept_lines (line ∷ ls) = cond (is_skipped line) (kept_lines ls) (line ∷ kept
 -- All bytes of a line may stand there.
 abbrev pub IsClean : List ℕ → Type 0
 IsClean line = All (λ b. is_allowed b ≡ true) line
+
+-- So many numbers from l on.
+abbrev pub numbers_from : ℕ → ℕ → List ℕ
+numbers_from l zero = []
+numbers_from l (suc k) = l ∷ numbers_from (l + 1) k

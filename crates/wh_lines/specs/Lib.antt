@@ -3,6 +3,8 @@ pub mod Lines
 pub mod Readings
 pub mod Numbers
 pub mod KeptLines
+pub mod LineReadings
 pub mod Laws
--- How this crate goes through the bytes of a line.
+-- How this crate goes through the bytes of a line and the lines of a text.
 pub mod Scans
+pub mod ReadingCodes

@@ -11,6 +11,11 @@ abbrev pub ◌>>=◌ : {A B : Type 0} → Result A ReadError → (A → Result B
 (Ok x) >>= f = f x
 (Err e) >>= f = Err e
 
+-- What is read, where each refusal is told in another way.
+abbrev pub refused_as : {A : Type 0} → (ReadError → ReadError) → Result A ReadError → Result A ReadError
+refused_as change (Ok x) = Ok x
+refused_as change (Err e) = Err (change e)
+
 -- The error is the refusal that reading gives. Want of memory tells nothing of it.
 abbrev pub Refuses : {A : Type 0} → Result A ReadError → ReadError → Type 0
 Refuses read e = e ≢ errors.OutOfMemory → read ≡ Err e

@@ -1,11 +1,12 @@
-//! The lines of a text that aren't skipped, one after another.
-ghost use Rattle.std.specs.Prelude.{◌≡◌, ◌≢◌, ℕ, ◌<◌, ◌≤◌, ◌+◌, ◌^◌, List, [], length, Option, Result, Ok, IfOk};
-ghost use Rattle.wh_lines.specs.declared.read_error.ReadError.{ReadError};
+//! The lines of a text that aren't skipped.
+ghost use Rattle.std.specs.Prelude.{◌≡◌, ◌≢◌, ◌<◌, ◌≤◌, ◌+◌, ◌^◌, [], None, length, IfOk};
 ghost use Rattle.std.specs.List.{sum_by};
-ghost use Rattle.wh_lines.specs.Scans.{bytes_within};
-ghost use Rattle.wh_lines.specs.Lines.{lines};
+ghost use Rattle.wh_lines.specs.Lines.{are, lines};
 ghost use Rattle.wh_lines.specs.Readings.{Gives};
 ghost use Rattle.wh_lines.specs.KeptLines as spec;
+ghost use Rattle.wh_lines.specs.KeptLines.{Rest, rest, kept_or};
+ghost use Rattle.wh_lines.specs.KeptLines.Rest.{line as a_line};
+ghost use Rattle.wh_lines.specs.Scans.{bytes_within, checked_fields, first_of};
 
 use crate::field::{Field, split};
 use crate::line::{after, bad_at, before, is_comment};
@@ -13,42 +14,10 @@ use crate::read_error::ReadError;
 use std::alloc::Global;
 use std::marker::Model;
 
-/// Where reading is: the number of the next line, and the bytes from that line on.
-#[derive(Drop)]
-pub struct Place<'a> {
-    line: u64,
-    rest: &'a [u8],
-}
-
-impl<'a> Model for Place<'a> {
-    ghost use Rattle.std.specs.Prelude.{◌<◌, ◌+◌, ◌^◌, length};
-    ghost use Rattle.wh_lines.specs.Lines.{lines};
-    ghost use Rattle.wh_lines.specs.KeptLines as spec;
-
-    ghost Value = { spec.Place };
-
-    ghost view = { λ p. record { line = p.line; rest = lines p.rest.now } };
-
-    ghost invariant = { λ p. p.line + length p.rest.now < 2 ^ 63 };
-}
-
-impl<'a> Place<'a> {
-    /// The beginning of a text.
-    pub fn start(bytes: &'a [u8]) -> Place<'a>
-        requires { length bytes.now < 2 ^ 62 }
-        ensures { result ≡ record { line = 1; rest = lines bytes.now } }
-    {
-        Place {
-            line: 1,
-            rest: bytes,
-        }
-    }
-}
-
 /// A line that isn't skipped: its number, its first field, and the fields after that.
 #[derive(Drop)]
 pub struct Kept<'a> {
-    number: u64,
+    number: u32,
     keyword: Field<'a>,
     fields: Vec<Field<'a>>,
 }
@@ -68,17 +37,17 @@ impl<'a> Model for Kept<'a> {
 
 impl<'a> Kept<'a> {
     /// Its number.
-    pub fn number(&self) -> u64
+    pub fn number(&self) -> u32
         ensures { result ≡ self.now.number }
     {
         self.number
     }
 
-    /// Its first field.
-    pub fn keyword(&self) -> &[u8]
-        ensures { result.now ≡ self.now.keyword }
+    /// Whether its first field is this text.
+    pub fn has_keyword(&self, keyword: &[u8]) -> bool
+        ensures { result ≡ are self.now.keyword keyword.now }
     {
-        self.keyword.bytes()
+        self.keyword.is(keyword)
     }
 
     /// The fields after the first.
@@ -90,15 +59,16 @@ impl<'a> Kept<'a> {
     }
 }
 
-/// The fields of a line, first to last, which are no longer than the line; none where it is skipped. BadByte names the leftmost byte that may not stand in it.
-#[tactic(auto, unfolding(crate::specs::KeptLines::line_fields), using(crate::proofs::FieldCuts::fields_total))]
-pub fn line_fields(alloc: Global, line: u64, bytes: &[u8]) -> Result<Vec<Field>, ReadError>
-    ensures fields { Gives (λ v. v.items) result (spec.line_fields line bytes.now) }
+/// The fields of a line, first to last, which are no longer than the line; none where it is skipped. BadByte names the
+/// leftmost byte that may not stand in it.
+#[tactic(auto, unfolding(crate::specs::Scans::checked_fields), using(crate::proofs::FieldCuts::fields_total))]
+fn line_fields(alloc: Global, line: u32, bytes: &[u8]) -> Result<Vec<Field>, ReadError>
+    ensures fields { Gives (λ v. v.items) result (checked_fields line bytes.now) }
     ensures within { IfOk result (λ v. sum_by bytes_within v.items ≤ length bytes.now) }
 {
     if let Some(column) = bad_at(bytes) {
         return Err(ReadError::BadByte {
-            line,
+            line: line as u64,
             column: column as u64,
         });
     }
@@ -109,10 +79,10 @@ pub fn line_fields(alloc: Global, line: u64, bytes: &[u8]) -> Result<Vec<Field>,
 }
 
 /// The kept line of fields, of which there is one at least.
-fn kept_of(number: u64, fields: Vec<Field>) -> Kept
+fn kept_of(number: u32, fields: Vec<Field>) -> Kept
     requires some { fields.items ≢ [] }
     requires fits { sum_by bytes_within fields.items < 2 ^ 64 }
-    ensures { (ls : List (List ℕ)) (later : Result (Option spec.Kept × spec.Place) ReadError) → spec.kept_or number ls fields.entry.items later ≡ Ok (Some result, record { line = number + 1; rest = ls }) }
+    ensures { (later : Rest) → kept_or number fields.entry.items later ≡ a_line result later }
 {
     let mut fields = fields;
     let keyword = fields.remove(0);
@@ -123,59 +93,30 @@ fn kept_of(number: u64, fields: Vec<Field>) -> Kept
     }
 }
 
-/// The first line from a place on that isn't skipped, if any, and the place behind it.
+/// The first of some lines that isn't skipped, where there is one, and the number and the bytes of what stands behind it.
+/// The first line has this number. Where there is none, no bytes are left.
 #[tactic(auto, using(crate::proofs::KeptSteps::kept_end))]
-fn first_kept(alloc: Global, place: Place) -> Result<(Option<Kept>, Place), ReadError>
-    ensures { Gives (λ r. r) result (spec.first_kept place.entry.line place.entry.rest) }
+pub fn first_kept<'a>(
+    alloc: Global,
+    line: u32,
+    bytes: &'a [u8],
+) -> Result<(Option<Kept<'a>>, u32, &'a [u8]), ReadError>
+    requires { line + length bytes.now < 2 ^ 32 }
+    ensures first { Gives (λ r. (r.0, rest r.1 (lines r.2.now))) result (first_of (rest line (lines bytes.now))) }
+    ensures fits { IfOk result (λ r. r.1 + length r.2.now < 2 ^ 32) }
+    ensures end { IfOk result (λ r. r.0 ≡ None → r.2.now ≡ []) }
 {
-    let Place { line, rest } = place;
     let mut line = line;
-    let mut rest = rest;
-    'lines: while !rest.is_empty() {
-        let count = before(b'\n', rest);
+    let mut bytes = bytes;
+    'lines: while !bytes.is_empty() {
+        let count = before(b'\n', bytes);
         let number = line;
-        let fields = line_fields(alloc, number, &rest[..count])?;
-        rest = after(rest, count + 1);
+        let fields = line_fields(alloc, number, &bytes[..count])?;
+        bytes = after(bytes, count + 1);
         line += 1;
         if !fields.is_empty() {
-            return Ok((Some(kept_of(number, fields)), Place { line, rest }));
+            return Ok((Some(kept_of(number, fields)), line, bytes));
         }
     }
-    Ok((None, Place { line, rest }))
-}
-
-/// The next line that isn't skipped, and the place behind it. BadLine comes where there is none, with the place past the
-/// end, and where its first field isn't this keyword.
-#[tactic(auto, unfolding(crate::specs::KeptLines::line_after))]
-pub fn line_after<'a>(
-    alloc: Global,
-    keyword: &[u8],
-    place: Place<'a>,
-) -> Result<(Kept<'a>, Place<'a>), ReadError>
-    ensures { Gives (λ r. r) result (spec.line_after keyword.now place.entry) }
-{
-    let (kept, place) = first_kept(alloc, place)?;
-    let Some(kept) = kept else {
-        return Err(ReadError::BadLine { line: place.line });
-    };
-    if kept.keyword() != keyword {
-        return Err(ReadError::BadLine {
-            line: kept.number(),
-        });
-    }
-    Ok((kept, place))
-}
-
-/// The end of a text. BadLine comes where a line isn't skipped.
-#[tactic(auto, unfolding(crate::specs::KeptLines::end_after))]
-pub fn end_after(alloc: Global, place: Place) -> Result<Place, ReadError>
-    ensures { Gives (λ p. p) result (spec.end_after place.entry) }
-{
-    let (kept, place) = first_kept(alloc, place)?;
-    match kept {
-        None => Ok(place),
-        Some(kept) => Err(ReadError::BadLine {
-            line: kept.number(),
-        }),
-    }
+    Ok((None, line, bytes))
 }

@@ -7,9 +7,10 @@ pub mod laws;
 mod line;
 mod number;
 mod read_error;
+mod reader;
 
 pub use field::Field;
-pub use kept_line::{Kept, Place, end_after, line_after, line_fields};
-pub use line::{after, before, is_comment};
+pub use kept_line::Kept;
 pub use number::{canonical_number, print_number, print_number_line};
 pub use read_error::ReadError;
+pub use reader::{Next, Reader};

@@ -81,13 +81,16 @@ fn a_tuple_is_made_in_the_room_of_another(rt: HostRuntime) -> Result<(), Fail> {
     let alloc = rt.alloc();
     let tuple = tuple(alloc, "rank 2\ntuple ab\n")?;
     let cut = Move::cut(tuple.rank(), letter(b'a')?, LetterSet::of_bits(9)).ok_or("cut")?;
-    let mut into = Tuple::with_room(alloc, tuple.rank(), 1, 2)?;
+    let mut into = Tuple::with_room(alloc, tuple.rank(), 64, 4096)?;
     assert_eq!(rt; cut.rank(), tuple.rank());
     assert!(rt; acted_length(&tuple, &cut) as usize <= into.room());
     assert!(rt; tuple.count() <= into.word_room());
     act_into(&tuple, &cut, &mut into);
     assert!(rt; into.same(&self::tuple(alloc, "rank 2\ntuple b\n")?));
-    assert_eq!(rt; into.room(), 2);
+    assert_eq!(rt; into.room(), 4096);
+    let copy = into.copy(alloc)?;
+    assert!(rt; copy.same(&into));
+    assert_eq!(rt; copy.room(), 1);
     Ok(())
 }
 

@@ -35,6 +35,7 @@ fn a_write_fault_leaves_a_front_of_the_text(rt: HostRuntime) -> Result<(), Fail>
         Status::WriteFault
     );
     assert_eq!(rt; sink.held(), b"whitehead 1 redu".as_slice());
+    assert_eq!(rt; sink.sent(), b"".as_slice());
     assert_eq!(rt; sink.faults(), 1);
     Ok(())
 }
@@ -54,6 +55,7 @@ fn refused_words_read_nothing(rt: HostRuntime) -> Result<(), Fail> {
         Status::Refused
     );
     assert_eq!(rt; sink.held(), b"refused words\n".as_slice());
+    assert_eq!(rt; sink.sent(), sink.held());
     assert_eq!(rt; source.faults(), 0);
     Ok(())
 }

@@ -1,7 +1,6 @@
-pub mod Sheets
 pub mod RankLaws
-pub mod ToldLines
-pub mod TextLaws
+pub mod ProblemTuples
+pub mod ProblemLaws
 pub mod BadByteLaws
 pub mod AnswerRows
 pub mod RowTexts

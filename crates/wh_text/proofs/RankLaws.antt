@@ -9,7 +9,7 @@ use Rattle.wh_text.specs.declared.command.Command.TheVariants as commands
 use Rattle.wh_lines.specs.declared.read_error.ReadError.TheVariants as errors
 use Rattle.wh_lines.specs.Lines.{Field}
 use Rattle.wh_lines.specs.Numbers.{number}
-use Rattle.wh_text.specs.Problems.{greatest_rank, rank_at, rank_number, allowed_rank}
+use Rattle.wh_text.specs.RankLines.{greatest_rank, rank_at, rank_number, allowed_rank}
 use Rattle.wh_lines.proofs.NumberLaws.{reads_numbers}
 use Rattle.wh_lines.proofs.Equations.{ok_is, if_ok}
 

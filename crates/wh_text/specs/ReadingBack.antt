@@ -12,7 +12,7 @@ use Rattle.wh_text.specs.Certificates.{most_certificate_bytes, certificate}
 use Rattle.wh_fields.specs.FlowFields.{IsFlowOf, heads_from}
 use Rattle.wh_fields.specs.MoveFields.{IsMoveOf}
 use Rattle.wh_fields.specs.TupleFields.{IsTupleOf}
-use Rattle.wh_lines.specs.KeptLines.{numbers_from}
+use Rattle.wh_lines.specs.Laws.{numbers_from}
 
 -- A side in rank n, whose end has so many words.
 pub record IsSideOf (n count : ℕ) (s : SideData) : Type 0 where

@@ -1,10 +1,10 @@
 -- What is told of a problem is told valid when it is checked: for the law on answers.
-use Rattle.std.proofs.Common.{◌≡◌, ◌⊎◌, ◌≤◌, ℕ, List, [], ◌∷◌, sym, ap, ◌∙◌, refl, subst, arith, inl, inr, Result, Ok, Err, Option, None, Some}
-use Rattle.std.specs.Prelude.{leb, ◌&&◌, codes}
+use Rattle.std.proofs.Common.{◌≡◌, ◌⊎◌, ◌≤◌, ℕ, List, [], ◌∷◌, sym, ap, ◌∙◌, subst, arith, inl, inr, Ok, Option, None, Some}
+use Rattle.std.specs.Prelude.{codes}
 use Rattle.clap.specs.Words.{Row, Text, Kinds, first_of, fault_of, matches_of}
 use Rattle.std.proofs.lemmas.Bool.Decides.{nat_tests}
 use Rattle.wh_text.specs.declared.status.Status.{Status}
-use Rattle.wh_text.specs.declared.status.Status.TheVariants.{Done, No, Refused, Undecided}
+use Rattle.wh_text.specs.declared.status.Status.TheVariants.{Done, No}
 use Rattle.wh_text.specs.declared.command.Command.{Command}
 use Rattle.wh_text.specs.declared.answer.Answer as answers
 use Rattle.wh_text.specs.declared.answer.Answer.TheVariants.{Reduce, Decide}
@@ -24,13 +24,12 @@ use Rattle.whitehead.specs.declared.arguments.Task.{Task}
 use Rattle.whitehead.specs.declared.arguments.Task.TheVariants as tasks
 use Rattle.whitehead.specs.declared.arguments.Arguments.{Arguments}
 use Rattle.whitehead.specs.CommandLine.{program}
-use Rattle.whitehead.specs.Asked.{in_range, option_in, together, asked_by, asked_unless, asked, task_in}
+use Rattle.whitehead.specs.Asked.{in_range, option_in, together, asked_unless, asked, task_in}
 use Rattle.whitehead.specs.CheckedTexts.{checked_text}
 use Rattle.whitehead.specs.Replies.{Replies}
 use Rattle.whitehead.specs.Replies.Replies.{refused, answered, unread, checked}
-use Rattle.whitehead.specs.Outcome.{Told}
 use Rattle.whitehead.specs.Outcome.Told.{words_refused, replied}
-use Rattle.whitehead.specs.Laws.{AskAnswer, AskCheck, AnswersAreValid}
+use Rattle.whitehead.specs.Laws.{AnswersAreValid}
 use Rattle.whitehead.proofs.ReadProblems.{read_problem}
 
 -- ---- the limit of a run

@@ -6,3 +6,5 @@ pub mod ReadProblems
 pub mod OneText
 pub mod KnownReplies
 pub mod Checking
+pub mod ReadTuples
+pub mod Meaning

@@ -1,0 +1,175 @@
+-- The rows that a text tells, from its lines: for the laws on whole texts.
+use Rattle.std.proofs.Common.{◌≡◌, ℕ, suc, ◌+◌, ◌==◌, Bool, true, false, cond, List, [], ◌∷◌, ◌++◌, length, map, refl, sym, ap, ◌∙◌, arith, append_assoc, append-nil, subst, None, Some, inl, inr}
+use Rattle.std.specs.Prelude.{◌||◌}
+use Rattle.std.specs.declared.option.Option.{Option}
+use Rattle.std.specs.List.{All}
+use Rattle.std.proofs.lemmas.List.Elements.{All-nil, All-cons, All-head, All-tail}
+use Rattle.std.proofs.lemmas.Bool.{cases_Bool, cond-true, cond-false, false≢true}
+use Rattle.wh_lines.specs.Lines.{Field, bad_at, is_comment, fields}
+use Rattle.wh_lines.specs.KeptLines.{Kept, Rest, rest, line_fields, kept_or, unless_bad}
+use Rattle.wh_lines.specs.KeptLines.Rest.{line, bad_byte, end}
+use Rattle.wh_lines.specs.LineReadings.{Reading}
+use Rattle.wh_lines.specs.Laws.{IsClean, is_skipped, kept_lines, field_texts, numbers_from}
+use Rattle.wh_lines.proofs.SkippedLines.{bad_clean, clean_bad, is_none, skipped_is}
+use Rattle.wh_lines.proofs.FieldLaws.{AreSome, fields_some, rest_some}
+use Rattle.wh_lines.proofs.NextLines.{behind}
+use Rattle.wh_lines.proofs.PrintedRows.{Row, row_text, IsShownRow, row_fields, row_clean, row_kept}
+use Rattle.wh_lines.proofs.RowReadings.{Tells, Passes}
+
+-- All that is left tells these rows, and no byte of it is bad.
+abbrev pub Holds : Rest → List Row → Type 0
+Holds (line k later) [] = ⊥
+Holds (line k later) (r ∷ rows) = Tells r k × Holds later rows
+Holds (bad_byte l c) rows = ⊥
+Holds (end l) [] = Unit {0}
+Holds (end l) (r ∷ rows) = ⊥
+
+-- The keyword of a row and its fields.
+abbrev pub texts_of : Row → List (List ℕ)
+texts_of r = r.keyword ∷ r.fields
+
+pub kept_row : (k : Kept) → AreSome k.fields → Tells (record { keyword = k.keyword; fields = map (λ f. f.bytes) k.fields }) k
+kept_row k h = record { keyword = refl; some = h; same = refl }
+
+-- no line that is left has an empty field
+abbrev pub AllSome : Rest → Type 0
+AllSome (line k later) = AreSome k.fields × AllSome later
+AllSome (bad_byte l c) = Unit {0}
+AllSome (end l) = Unit {0}
+
+-- ---- a line
+-- a skipped line is nothing, and another one is a line with its fields
+record IsLine (l : ℕ) (bytes : List ℕ) (k : Kept) : Type 0 where
+  texts : k.keyword ∷ map (λ f. f.bytes) k.fields ≡ field_texts bytes
+  some : AreSome k.fields
+
+data LineCase (l : ℕ) (bytes : List ℕ) : Type 0 where
+  skipped : is_skipped bytes ≡ true → ((later : Rest) → kept_or l (line_fields bytes) later ≡ later) → LineCase l bytes
+  kept : is_skipped bytes ≡ false → (k : Kept) → k.number ≡ l → IsLine l bytes k → ((later : Rest) → kept_or l (line_fields bytes) later ≡ line k later) → LineCase l bytes
+
+case_by : (l : ℕ) (bytes : List ℕ) (t : Bool) (fs : List Field) → is_comment bytes ≡ t → fields 1 bytes ≡ fs → LineCase l bytes
+case_by l bytes true fs c e =
+    skipped (skipped_is bytes ∙ ap (λ t. t || is_none (fields 1 bytes)) c) (λ later. ap (λ t. kept_or l (cond t [] (fields 1 bytes)) later) c)
+case_by l bytes false [] c e =
+    skipped (skipped_is bytes ∙ ap (λ t. t || is_none (fields 1 bytes)) c ∙ ap is_none e) (λ later. ap (λ t. kept_or l (cond t [] (fields 1 bytes)) later) c ∙ ap (λ fs. kept_or l fs later) e)
+case_by l bytes false (f ∷ fs) c e =
+    kept (skipped_is bytes ∙ ap (λ t. t || is_none (fields 1 bytes)) c ∙ ap is_none e) (record { number = l; keyword = f.bytes; fields = fs }) refl
+    (record { texts = sym (ap (map (λ f. f.bytes)) e); some = rest_some bytes f fs e })
+    (λ later. ap (λ t. kept_or l (cond t [] (fields 1 bytes)) later) c ∙ ap (λ fs. kept_or l fs later) e)
+
+line_case : (l : ℕ) (bytes : List ℕ) → LineCase l bytes
+line_case l bytes = case_by l bytes (is_comment bytes) (fields 1 bytes) refl refl
+
+-- a line of clean bytes
+clean_line : (l : ℕ) (bytes : List ℕ) (ls : List (List ℕ)) → IsClean bytes → rest l (bytes ∷ ls) ≡ kept_or l (line_fields bytes) (rest (l + 1) ls)
+unfolding rest
+clean_line l bytes ls h = ap (λ o. unless_bad l o (kept_or l (line_fields bytes) (rest (l + 1) ls))) (clean_bad 1 bytes h)
+
+unless_by : (l : ℕ) (r : Rest) (rows : List Row) (o : Option ℕ) → Holds (unless_bad l o r) rows → (o ≡ None) × Holds r rows
+unless_by l r rows None h = (refl, h)
+unless_by l r rows (Some c) h = absurd h
+
+holds_line : (l : ℕ) (bytes : List ℕ) (ls : List (List ℕ)) (rows : List Row) → Holds (rest l (bytes ∷ ls)) rows → IsClean bytes × Holds (kept_or l (line_fields bytes) (rest (l + 1) ls)) rows
+unfolding rest
+holds_line l bytes ls rows h =
+    let p = unless_by l (kept_or l (line_fields bytes) (rest (l + 1) ls)) rows (bad_at 1 bytes) h in
+    (bad_clean 1 bytes p.0, p.1)
+
+-- ---- lines
+-- These clean lines have these rows.
+pub record HaveRows (ls : List (List ℕ)) (rows : List Row) : Type 0 where
+  pub clean : All IsClean ls
+  pub texts : map field_texts (kept_lines ls) ≡ map texts_of rows
+
+have_kept : (l : ℕ) (bytes : List ℕ) (k : Kept) (later : Rest) (ls : List (List ℕ)) (rows : List Row) → IsClean bytes → is_skipped bytes ≡ false → IsLine l bytes k →
+    Holds (line k later) rows → ((more : List Row) → Holds later more → HaveRows ls more) → HaveRows (bytes ∷ ls) rows
+have_kept l bytes k later ls [] clean s t h rec = absurd h
+have_kept l bytes k later ls (r ∷ rows) clean s t h rec =
+    let q = rec rows h.1 in
+    record {
+      clean = All-cons IsClean bytes ls clean q.clean;
+      texts = ap (map field_texts) (cond-false (is_skipped bytes) (kept_lines ls) (bytes ∷ kept_lines ls) s)
+          ∙ ap (λ ts. ts ∷ map field_texts (kept_lines ls)) (sym t.texts ∙ ap (λ w. w ∷ map (λ f. f.bytes) k.fields) h.0.keyword ∙ ap (λ ws. r.keyword ∷ ws) h.0.same)
+          ∙ ap (λ tss. texts_of r ∷ tss) q.texts;
+    }
+
+pub holds_is : (l : ℕ) (ls : List (List ℕ)) (rows : List Row) → Holds (rest l ls) rows → HaveRows ls rows
+unfolding rest
+holds_is l [] [] h = record { clean = All-nil IsClean; texts = refl }
+holds_is l [] (r ∷ rows) h = absurd h
+holds_is l (bytes ∷ ls) rows h =
+    let p = holds_line l bytes ls rows h in
+    elim (line_case l bytes) [
+      | skipped s same ↦ (let q = holds_is (l + 1) ls rows (subst (λ (r : Rest). Holds r rows) (same (rest (l + 1) ls)) p.1) in
+          record {
+            clean = All-cons IsClean bytes ls p.0 q.clean;
+            texts = ap (map field_texts) (cond-true (is_skipped bytes) (kept_lines ls) (bytes ∷ kept_lines ls) s) ∙ q.texts;
+          })
+      | kept s k n t same ↦ have_kept l bytes k (rest (l + 1) ls) ls rows p.0 s t (subst (λ (r : Rest). Holds r rows) (same (rest (l + 1) ls)) p.1) (λ more g. holds_is (l + 1) ls more g)
+    ]
+
+back_kept : (l : ℕ) (bytes : List ℕ) (k : Kept) (later : Rest) (rows : List Row) (others : List (List (List ℕ))) → IsLine l bytes k → field_texts bytes ∷ others ≡ map texts_of rows →
+    ((more : List Row) → others ≡ map texts_of more → Holds later more) → Holds (line k later) rows
+back_kept l bytes k later [] others t e rec = absurd (cc)
+back_kept l bytes k later (r ∷ rows) others t e rec =
+    let here : k.keyword ∷ map (λ f. f.bytes) k.fields ≡ texts_of r = t.texts ∙ (cc) in
+    let more : others ≡ map texts_of rows = (cc) in
+    let keyword : k.keyword ≡ r.keyword = (cc) in
+    let same : map (λ f. f.bytes) k.fields ≡ r.fields = (cc) in
+    (record { keyword = keyword; some = t.some; same = same }, rec rows more)
+
+pub holds_back : (l : ℕ) (ls : List (List ℕ)) (rows : List Row) → HaveRows ls rows → Holds (rest l ls) rows
+unfolding rest
+holds_back l [] [] h = tt
+holds_back l [] (r ∷ rows) h = let e = h.texts in absurd (cc)
+holds_back l (bytes ∷ ls) rows h =
+    let clean = All-head IsClean bytes ls h.clean in
+    let others = All-tail IsClean bytes ls h.clean in
+    subst (λ (r : Rest). Holds r rows) (sym (clean_line l bytes ls clean))
+    (elim (line_case l bytes) [
+      | skipped s same ↦ subst (λ (r : Rest). Holds r rows) (sym (same (rest (l + 1) ls)))
+          (holds_back (l + 1) ls rows (record { clean = others; texts = sym (ap (map field_texts) (cond-true (is_skipped bytes) (kept_lines ls) (bytes ∷ kept_lines ls) s)) ∙ h.texts }))
+      | kept s k n t same ↦ subst (λ (r : Rest). Holds r rows) (sym (same (rest (l + 1) ls)))
+          (back_kept l bytes k (rest (l + 1) ls) rows (map field_texts (kept_lines ls)) t (sym (ap (map field_texts) (cond-false (is_skipped bytes) (kept_lines ls) (bytes ∷ kept_lines ls) s)) ∙ h.texts)
+          (λ more e. holds_back (l + 1) ls more (record { clean = others; texts = e })))
+    ])
+
+-- ---- no field is empty
+some_by : (l : ℕ) (r : Rest) (o : Option ℕ) → AllSome r → AllSome (unless_bad l o r)
+some_by l r None h = h
+some_by l r (Some c) h = tt
+
+pub rest_all_some : (l : ℕ) (ls : List (List ℕ)) → AllSome (rest l ls)
+unfolding rest
+rest_all_some l [] = tt
+rest_all_some l (bytes ∷ ls) =
+    some_by l (kept_or l (line_fields bytes) (rest (l + 1) ls)) (bad_at 1 bytes)
+    (elim (line_case l bytes) [
+      | skipped s same ↦ subst AllSome (sym (same (rest (l + 1) ls))) (rest_all_some (l + 1) ls)
+      | kept s k n t same ↦ subst AllSome (sym (same (rest (l + 1) ls))) (t.some, rest_all_some (l + 1) ls)
+    ])
+
+-- ---- printed rows
+-- the line of a row that is printed
+kept_of_row : (l : ℕ) (r : Row) (ls : List (List ℕ)) → IsShownRow r → (k : Kept) × (rest l (row_text r ∷ ls) ≡ line k (rest (l + 1) ls)) × (k.number ≡ l) × Tells r k
+kept_of_row l r ls h = elim (line_case l (row_text r)) [
+  | skipped s same ↦ absurd (false≢true (sym (row_kept r h) ∙ s))
+  | kept s k n t same ↦ (let e : k.keyword ∷ map (λ f. f.bytes) k.fields ≡ r.keyword ∷ r.fields = t.texts ∙ row_fields r h in
+      let keyword : k.keyword ≡ r.keyword = (cc) in
+      let fields : map (λ f. f.bytes) k.fields ≡ r.fields = (cc) in
+      (k, clean_line l (row_text r) ls (row_clean r h) ∙ same (rest (l + 1) ls), n, record { keyword = keyword; some = t.some; same = fields }))
+]
+
+pub rows_pass : (l : ℕ) (taken : List ℕ) (rows : List Row) → All IsShownRow rows →
+    (m : ℕ) × Passes rows (record { taken = taken; rest = rest l (map row_text rows) }) (record { taken = taken ++ numbers_from l (length rows); rest = end m })
+unfolding rest
+rows_pass l taken [] a = (l, ap (λ ns. record { taken = ns; rest = end l }) (sym (append-nil taken)))
+rows_pass l taken (r ∷ rows) a =
+    let ls = map row_text rows in
+    let k = kept_of_row l r ls (All-head IsShownRow r rows a) in
+    let later = rows_pass (l + 1) (taken ++ k.0.number ∷ []) rows (All-tail IsShownRow r rows a) in
+    let ns = numbers_from (l + 1) (length rows) in
+    let numbers : (taken ++ k.0.number ∷ []) ++ ns ≡ taken ++ l ∷ ns = append_assoc taken (k.0.number ∷ []) ns ∙ ap (λ x. taken ++ x ∷ ns) k.2 in (
+      later.0,
+      (k.0, rest (l + 1) ls, k.1, k.3, subst (λ (xs : List ℕ). Passes rows (record { taken = taken ++ k.0.number ∷ []; rest = rest (l + 1) ls }) (record { taken = xs; rest = end later.0 })) numbers later.1),
+    )
