@@ -11,7 +11,9 @@ use wh_text::Status;
 use whitehead::run;
 
 const PROBLEM: &[u8] = b"rank 2\ntuple ab\n";
-const ANSWER: &[u8] = b"whitehead 1 reduce\nrank 2\ntuple ab\ntrace a:aB\nend b\nflow a 0\nflow b 1 bB:1\ndone\n";
+
+const ANSWER: &[u8] =
+    b"whitehead 1 reduce\nrank 2\ntuple ab\ntrace a:aB\nend b\nflow a 0\nflow b 1 bB:1\ndone\n";
 
 /// A sink that takes all that it is given, and fails whenever it is flushed.
 #[derive(Drop)]

@@ -108,7 +108,18 @@ fn a_commutator_has_fifteen_level_moves(rt: HostRuntime) -> Result<(), Fail> {
     assert_eq!(rt; moves.get(2).copied(), Move::invert(rank, 2));
     // The letters a, A, b and B have the indices 0 to 3, so that the first cut is a:ab.
     let cuts = [
-        (0, 5), (0, 9), (0, 13), (1, 6), (1, 10), (1, 14), (2, 5), (2, 6), (2, 7), (3, 9), (3, 10), (3, 11),
+        (0, 5),
+        (0, 9),
+        (0, 13),
+        (1, 6),
+        (1, 10),
+        (1, 14),
+        (2, 5),
+        (2, 6),
+        (2, 7),
+        (3, 9),
+        (3, 10),
+        (3, 11),
     ];
     assert!(rt; end_with_cuts(moves, 3, &cuts));
     Ok(())

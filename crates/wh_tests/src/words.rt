@@ -88,7 +88,13 @@ fn lists_give_their_items_back(rt: HostRuntime) -> Result<(), Fail> {
 }
 
 /// Asserts whether two tuples of rank 3, as problem texts tell them, are equal.
-fn are_equal(rt: &impl Abort, alloc: Global, one: &str, other: &str, equal: bool) -> Result<(), Fail> {
+fn are_equal(
+    rt: &impl Abort,
+    alloc: Global,
+    one: &str,
+    other: &str,
+    equal: bool,
+) -> Result<(), Fail> {
     let one = tuple(alloc, one)?;
     let other = tuple(alloc, other)?;
     assert_eq!(rt; one == other, equal);
