@@ -10,13 +10,13 @@ use Rattle.wh_words.specs.Levels.{IsLevelMove, InLevel, HasMoreThan}
 use Rattle.wh_expand.specs.Rows.{IsRow, row_tuple}
 use Rattle.wh_expand.specs.declared.row.Row.{Row}
 use Rattle.wh_level.specs.Sealings.{IsImage}
-use Rattle.wh_level.specs.Trees.{IsClosed}
+use Rattle.wh_level.specs.Trees.{IsClosedLevel}
 use Rattle.wh_workers.specs.declared.explored.Explored.{Explored}
 use Rattle.wh_workers.specs.declared.explored.Explored.TheVariants.{Closed, Passed}
 
 -- The whole level of the root, where it has at most this many tuples, and else that it has more.
 abbrev pub Explores : TupleData → ℕ → Explored → Type 0
-Explores root limit (Closed level) = IsClosed level × (level.root ≡ root) × (length level.tuples ≤ limit)
+Explores root limit (Closed level) = IsClosedLevel level × (level.root ≡ root) × (length level.tuples ≤ limit)
 Explores root limit Passed = HasMoreThan root limit
 
 -- The steps that were taken are as many as the tuples of the level, where it is answered.
