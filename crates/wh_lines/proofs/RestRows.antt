@@ -13,7 +13,8 @@ use Rattle.wh_lines.specs.Laws.{IsClean, is_skipped, kept_lines, field_texts, nu
 use Rattle.wh_lines.proofs.SkippedLines.{bad_clean, clean_bad, is_none, skipped_is}
 use Rattle.wh_lines.proofs.FieldLaws.{AreSome, fields_some, rest_some}
 use Rattle.wh_lines.proofs.NextLines.{behind}
-use Rattle.wh_lines.proofs.PrintedRows.{Row, row_text, IsShownRow, row_fields, row_clean, row_kept}
+use Rattle.wh_lines.specs.Rows.{Row, row_bytes}
+use Rattle.wh_lines.proofs.PrintedRows.{IsShownRow, row_fields, row_clean, row_kept}
 use Rattle.wh_lines.proofs.RowReadings.{Tells, Passes}
 
 -- All that is left tells these rows, and no byte of it is bad.
@@ -151,21 +152,21 @@ rest_all_some l (bytes ∷ ls) =
 
 -- ---- printed rows
 -- the line of a row that is printed
-kept_of_row : (l : ℕ) (r : Row) (ls : List (List ℕ)) → IsShownRow r → (k : Kept) × (rest l (row_text r ∷ ls) ≡ line k (rest (l + 1) ls)) × (k.number ≡ l) × Tells r k
-kept_of_row l r ls h = elim (line_case l (row_text r)) [
+kept_of_row : (l : ℕ) (r : Row) (ls : List (List ℕ)) → IsShownRow r → (k : Kept) × (rest l (row_bytes r ∷ ls) ≡ line k (rest (l + 1) ls)) × (k.number ≡ l) × Tells r k
+kept_of_row l r ls h = elim (line_case l (row_bytes r)) [
   | skipped s same ↦ absurd (false≢true (sym (row_kept r h) ∙ s))
   | kept s k n t same ↦ (let e : k.keyword ∷ map (λ f. f.bytes) k.fields ≡ r.keyword ∷ r.fields = t.texts ∙ row_fields r h in
       let keyword : k.keyword ≡ r.keyword = (cc) in
       let fields : map (λ f. f.bytes) k.fields ≡ r.fields = (cc) in
-      (k, clean_line l (row_text r) ls (row_clean r h) ∙ same (rest (l + 1) ls), n, record { keyword = keyword; some = t.some; same = fields }))
+      (k, clean_line l (row_bytes r) ls (row_clean r h) ∙ same (rest (l + 1) ls), n, record { keyword = keyword; some = t.some; same = fields }))
 ]
 
 pub rows_pass : (l : ℕ) (taken : List ℕ) (rows : List Row) → All IsShownRow rows →
-    (m : ℕ) × Passes rows (record { taken = taken; rest = rest l (map row_text rows) }) (record { taken = taken ++ numbers_from l (length rows); rest = end m })
+    (m : ℕ) × Passes rows (record { taken = taken; rest = rest l (map row_bytes rows) }) (record { taken = taken ++ numbers_from l (length rows); rest = end m })
 unfolding rest
 rows_pass l taken [] a = (l, ap (λ ns. record { taken = ns; rest = end l }) (sym (append-nil taken)))
 rows_pass l taken (r ∷ rows) a =
-    let ls = map row_text rows in
+    let ls = map row_bytes rows in
     let k = kept_of_row l r ls (All-head IsShownRow r rows a) in
     let later = rows_pass (l + 1) (taken ++ k.0.number ∷ []) rows (All-tail IsShownRow r rows a) in
     let ns = numbers_from (l + 1) (length rows) in

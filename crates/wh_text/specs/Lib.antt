@@ -1,4 +1,5 @@
 -- What a text means, from its bytes up to problems and answers.
+pub mod Limits
 pub mod RankLines
 pub mod Problems
 pub mod AnswerTexts
