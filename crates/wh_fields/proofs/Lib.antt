@@ -9,3 +9,5 @@ pub mod ItemRuns
 pub mod ShownFields
 pub mod ReadMoves
 pub mod ReadFlows
+pub mod MoveLaws
+pub mod FlowLaws

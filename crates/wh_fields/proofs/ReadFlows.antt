@@ -19,7 +19,7 @@ use Rattle.wh_fields.proofs.WordLaws.{letter_back}
 use Rattle.wh_fields.proofs.ItemRuns.{items_from, pair_items, pair_fields_are}
 
 -- ---- pairs
-pair_back : (n x y v : ℕ) (bs : List ℕ) → bs ≡ letter_text x ∷ letter_text y ∷ codes ":" ++ decimal v → n ≤ 26 → x < 2 * n → y < 2 * n → x ≢ y → 0 < v → v < 2 ^ 32 →
+pub pair_back : (n x y v : ℕ) (bs : List ℕ) → bs ≡ letter_text x ∷ letter_text y ∷ codes ":" ++ decimal v → n ≤ 26 → x < 2 * n → y < 2 * n → x ≢ y → 0 < v → v < 2 ^ 32 →
     pair_in n bs ≡ Some (record { from = x; to = y; amount = v })
 unfolding pair_in
 pair_back n x y v bs e h l g other some below =

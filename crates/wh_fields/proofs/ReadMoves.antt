@@ -71,7 +71,7 @@ set_back n set h l =
 
 -- ---- kinds
 -- a kind that isn't a cut has a digit second
-number_kind : (n b k : ℕ) (bs : List ℕ) → bs ≡ decimal k → k < 2 ^ 64 → kind_from n b bs ≡ cond (b == 115) (swap_of n (Some k)) (cond (b == 105) (invert_of n (Some k)) None)
+pub number_kind : (n b k : ℕ) (bs : List ℕ) → bs ≡ decimal k → k < 2 ^ 64 → kind_from n b bs ≡ cond (b == 115) (swap_of n (Some k)) (cond (b == 105) (invert_of n (Some k)) None)
 number_kind n b k [] e h = absurd (omega (arith, ap length e, decimal_nonempty k h))
 number_kind n b k (d ∷ ds) e h =
     let digit : IsDigit d = All-head IsDigit d ds (subst (All IsDigit) (sym e) (decimal_digits k h)) in

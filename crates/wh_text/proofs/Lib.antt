@@ -9,3 +9,6 @@ pub mod ReadAnswers
 pub mod ReadBack
 pub mod NumberedAnswers
 pub mod RowCounts
+pub mod ExactCertificates
+pub mod ExactLines
+pub mod ExactAnswers

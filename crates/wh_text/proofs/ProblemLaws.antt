@@ -11,14 +11,14 @@ use Rattle.wh_lines.specs.Readings.{◌>>=◌, refused_as}
 use Rattle.wh_lines.specs.KeptLines.{Kept, Rest, rest}
 use Rattle.wh_lines.specs.KeptLines.Rest.{line, bad_byte, end}
 use Rattle.wh_lines.specs.LineReadings.{Reading, start, line_after}
-use Rattle.wh_lines.specs.Laws.{IsClean, field_texts, kept_lines}
+use Rattle.wh_lines.specs.Laws.{IsClean, field_texts, kept_lines, texts_of}
 use Rattle.wh_lines.proofs.Equations.{bind_ok, ok_is, unless_ok, if_ok, not_more, is_not_more, are_is, are_back, refused_ok}
 use Rattle.wh_lines.proofs.Scanning.{eq_true}
 use Rattle.wh_lines.proofs.FieldLaws.{AreSome}
 use Rattle.wh_lines.proofs.NextLines.{behind, line_told, line_there}
 use Rattle.wh_lines.specs.Rows.{Row, number_row}
 use Rattle.wh_lines.proofs.RowReadings.{Tells, columns, columns_are}
-use Rattle.wh_lines.proofs.RestRows.{Holds, AllSome, HaveRows, texts_of, kept_row, holds_is, holds_back, rest_all_some}
+use Rattle.wh_lines.proofs.RestRows.{Holds, AllSome, HaveRows, kept_row, holds_is, holds_back, rest_all_some}
 use Rattle.wh_fields.specs.Words.{word_text}
 use Rattle.wh_fields.specs.TupleFields.{tuple_at}
 use Rattle.wh_fields.proofs.TupleLaws.{Spell, tuple_is, tuple_back}

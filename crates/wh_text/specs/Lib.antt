@@ -10,4 +10,5 @@ pub mod Certificates
 pub mod VerdictWords
 pub mod Numberings
 pub mod ReadingBack
+pub mod CertificateTexts
 pub mod Laws

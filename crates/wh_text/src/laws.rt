@@ -1,5 +1,6 @@
 //! Laws of reading, each the contract of an empty function.
 ghost use Rattle.wh_text.specs.ReadingBack.{ReadsBack};
+ghost use Rattle.wh_text.specs.CertificateTexts.{ReadsCertificates};
 ghost use Rattle.wh_text.specs.Laws.{ReadsReduceTexts, ReadsDecideTexts, NamesTheFirstBadByte, CountsRows};
 
 /// A text is accepted exactly where it is spelled as a problem of `reduce`.
@@ -25,4 +26,9 @@ pub fn printed_answers()
 /// An answer has as many rows as its lines are counted.
 pub fn row_counts()
     ensures { CountsRows }
+{}
+
+/// A text is accepted as a certificate exactly where it is spelled as one.
+pub fn certificates()
+    ensures { ReadsCertificates }
 {}
