@@ -10,7 +10,7 @@ use Rattle.wh_words.specs.CapacityTraces.{IsCapacityTrace}
 use Rattle.wh_words.specs.CapacityTraces.IsCapacityTrace.{done, step}
 use Rattle.wh_words.specs.Levels.{InLevel, IsLevel, IsFirstWalk, HasMoreThan}
 use Rattle.wh_reduce.specs.declared.trace.Trace.{Trace}
-use Rattle.wh_level.specs.Trees.{LevelData, IsClosed}
+use Rattle.wh_level.specs.Trees.{LevelData, IsClosedLevel}
 use Rattle.wh_text.specs.declared.answer.Side.{Side}
 use Rattle.wh_text.specs.declared.answer.Bound.TheVariants.{Length, Level}
 use Rattle.wh_text.specs.declared.answer.Verdict.TheVariants.{Yes, NoLength, NoLevel, Undecided}
@@ -23,7 +23,7 @@ use Rattle.wh_answer.proofs.Inverses.{act_all-append, trace_leads, walk_leads, t
 
 -- A trace keeps the rank.
 pub trace_rank : (t u : TupleData) (ms : List Move) → IsCapacityTrace t ms u → u.rank ≡ t.rank
-trace_rank t u [] (done tight) = refl
+trace_rank t u [] (done flat) = refl
 trace_rank t u (m ∷ ms) (step s r) = trace_rank (act t m) u ms r
 
 ends_apart : (s t : TupleData) (first second : Trace) → AreTraced s t first second → AreApart first second → EndApart s t first.moves second.moves first.end.plain second.end.plain
@@ -50,7 +50,7 @@ yes_at_once limit s t first second ms traced same e =
     (one_end traced.first_trace (subst (λ u. IsCapacityTrace t second.moves u) (sym same) traced.second_trace), carried s t first second [] traced same)
 
 pub yes_by_walk : (limit : ℕ) (s t : TupleData) (first second : Trace) (level : LevelData) (walk ms : List Move) → AreTraced s t first second → AreApart first second → tuple_length first.end.plain ≤ most_level_length →
-    IsClosed level → level.root ≡ first.end.plain → length level.tuples ≤ limit → IsFirstWalk level.root second.end.plain walk → ms ≡ first.moves ++ (walk ++ inverse_list second.moves) → IsVerdict limit s t (Yes ms)
+    IsClosedLevel level → level.root ≡ first.end.plain → length level.tuples ≤ limit → IsFirstWalk level.root second.end.plain walk → ms ≡ first.moves ++ (walk ++ inverse_list second.moves) → IsVerdict limit s t (Yes ms)
 yes_by_walk limit s t first second level walk ms traced apart low closed e few first_walk f =
     let walked : IsFirstWalk first.end.plain second.end.plain walk = subst (λ u. IsFirstWalk u second.end.plain walk) e first_walk in
     subst (λ ns. IsVerdict limit s t (Yes ns)) (sym f) (
@@ -86,7 +86,7 @@ pub undecided_level : (limit : ℕ) (s t : TupleData) (first second : Trace) →
 undecided_level limit s t first second traced apart low more = (too_many (ends_apart s t first second traced apart) low more, tt)
 
 -- The second end isn't in the level of the first.
-pub found_off : (limit : ℕ) (first second : Trace) (level : LevelData) (ts : List Tuple) → AreApart first second → tuple_length first.end.plain ≤ most_level_length → IsClosed level → level.root ≡ first.end.plain →
+pub found_off : (limit : ℕ) (first second : Trace) (level : LevelData) (ts : List Tuple) → AreApart first second → tuple_length first.end.plain ≤ most_level_length → IsClosedLevel level → level.root ≡ first.end.plain →
     length level.tuples ≤ limit → ¬ (InLevel level.root second.end.plain) → map (λ u. u.plain) ts ≡ level.tuples → Finds limit first second (findings.Level ts)
 found_off limit first second level ts apart low closed e few off same = (
   apart,

@@ -2,7 +2,7 @@
 ghost use Rattle.std.specs.Prelude.{◌≡◌, ◌≢◌, ℕ, ◌≤◌, length, map, IfOk};
 ghost use Rattle.wh_words.specs.Limits.{most_level_rank, most_level_length};
 ghost use Rattle.wh_words.specs.Tuples.{TupleData, tuple_length};
-ghost use Rattle.wh_words.specs.CapacityTraces.{IsTight};
+ghost use Rattle.wh_words.specs.CapacityTraces.{IsFlatByCapacities};
 ghost use Rattle.wh_words.specs.Levels.{InLevel, IsLevel};
 ghost use Rattle.wh_text.specs.AnswerData.{verdict_of};
 ghost use Rattle.wh_text.specs.AnswerTexts.{IsPrintableVerdict};
@@ -19,8 +19,8 @@ use wh_words::{List, OutOfMemory, Tuple};
 
 /// The verdict where the traces end at different lengths.
 fn other_lengths(alloc: Global, first: Trace, second: Trace) -> Result<Verdict, OutOfMemory>
-    requires first_tight { IsTight first.end.plain }
-    requires second_tight { IsTight second.end.plain }
+    requires first_flat { IsFlatByCapacities first.end.plain }
+    requires second_flat { IsFlatByCapacities second.end.plain }
     requires lengths { tuple_length first.end.plain ≢ tuple_length second.end.plain }
     ensures verdict { (limit : ℕ) (s t : TupleData) → AreTraced s t first second → IfOk result (IsVerdict limit s t) }
     ensures printable { IfOk result (λ v. IsPrintableVerdict (verdict_of v)) }
@@ -37,8 +37,8 @@ fn off_level(
     second: Trace,
     level: List<Tuple>,
 ) -> Result<Verdict, OutOfMemory>
-    requires first_tight { IsTight first.end.plain }
-    requires second_tight { IsTight second.end.plain }
+    requires first_flat { IsFlatByCapacities first.end.plain }
+    requires second_flat { IsFlatByCapacities second.end.plain }
     requires apart { AreApart first second }
     requires low { tuple_length first.end.plain ≤ most_level_length }
     requires level { IsLevel first.end.plain (map (λ u. u.plain) level) }
@@ -58,8 +58,8 @@ fn verdict_by(
     second: Trace,
     found: Finding,
 ) -> Result<Verdict, OutOfMemory>
-    requires first_tight { IsTight first.end.plain }
-    requires second_tight { IsTight second.end.plain }
+    requires first_flat { IsFlatByCapacities first.end.plain }
+    requires second_flat { IsFlatByCapacities second.end.plain }
     requires found { (limit : ℕ) × Finds limit first second found }
     ensures verdict { (limit : ℕ) (s t : TupleData) → Finds limit first second found → AreTraced s t first second → IfOk result (IsVerdict limit s t) }
     ensures printable { IfOk result (λ v. IsPrintableVerdict (verdict_of v)) }

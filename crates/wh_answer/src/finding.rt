@@ -3,7 +3,7 @@ ghost use Rattle.std.specs.Prelude.{◌≡◌, ℕ, ◌≤◌, ◌++◌, length,
 ghost use Rattle.wh_words.specs.Limits.{most_level_rank, most_level_length};
 ghost use Rattle.wh_words.specs.Tuples.{tuple_length};
 ghost use Rattle.wh_words.specs.MoveLists.{inverse_list};
-ghost use Rattle.wh_level.specs.Trees.{IsClosed};
+ghost use Rattle.wh_level.specs.Trees.{IsClosedLevel};
 ghost use Rattle.wh_answer.specs.declared.finding.Finding.TheVariants as findings;
 ghost use Rattle.wh_answer.specs.Findings.{Finds};
 ghost use Rattle.wh_answer.specs.Traced.{AreApart};
@@ -54,7 +54,7 @@ fn find_in(
 ) -> Result<Finding, OutOfMemory>
     requires apart { AreApart first.now second.now }
     requires low { tuple_length first.now.end.plain ≤ most_level_length }
-    requires closed { IsClosed level }
+    requires closed { IsClosedLevel level }
     requires root { level.root ≡ first.now.end.plain }
     ensures { (limit : ℕ) → length level.tuples ≤ limit → IfOk result (Finds limit first.now second.now) }
 {

@@ -10,7 +10,7 @@ use Rattle.wh_words.specs.Moves.Kind.{swap, invert}
 use Rattle.wh_words.specs.Action.{act}
 use Rattle.wh_words.specs.Edges.{edges, cap, deg}
 use Rattle.wh_words.specs.Traces.{cut_length, IsFlat, IsStep, IsTrace}
-use Rattle.wh_words.specs.CapacityTraces.{IsTight, IsCapacityStep, IsCapacityTrace}
+use Rattle.wh_words.specs.CapacityTraces.{IsFlatByCapacities, IsCapacityStep, IsCapacityTrace}
 
 -- ---- edges
 -- There are as many edges as letters.
@@ -69,9 +69,9 @@ abbrev pub InversionsKeepTheLength : Type 0
 InversionsKeepTheLength = (t : TupleData) (k n : ℕ) → IsTuple t → IsKind n (invert k) → tuple_length (act t (record { rank = n; kind = invert k })) ≡ tuple_length t
 
 -- ---- traces
--- A tuple is flat exactly where it is tight.
-abbrev pub FlatIsTight : Type 0
-FlatIsTight = (t : TupleData) → IsTuple t → IsFlat t ↔ IsTight t
+-- A tuple is flat by lengths exactly where it is flat by capacities.
+abbrev pub FlatIsByCapacities : Type 0
+FlatIsByCapacities = (t : TupleData) → IsTuple t → IsFlat t ↔ IsFlatByCapacities t
 
 -- The step by lengths is the step by capacities.
 abbrev pub StepsAgree : Type 0

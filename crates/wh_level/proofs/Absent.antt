@@ -1,10 +1,9 @@
 -- What rows miss, row by row and move by move.
-use Rattle.std.proofs.Common.{◌≡◌, ◌≢◌, ◌⊎◌, ◌↔◌, ℕ, zero, suc, List, [], ◌∷◌, ◌++◌, get_or, map, Option, Some, None, slice_get, Contains, refl, sym, ap, ◌∙◌, subst, arith, inl, inr, Bool, true, false, not, is_some}
+use Rattle.std.proofs.Common.{◌≡◌, ◌≢◌, ◌⊎◌, ◌↔◌, ℕ, List, [], ◌∷◌, ◌++◌, get_or, map, Option, Some, None, slice_get, Contains, sym, ap, ◌∙◌, subst, inl, inr, Bool, true, false, not, is_some}
 use Rattle.std.proofs.lemmas.Bool.{true≢false}
-use Rattle.std.proofs.lemmas.List.{length-map, map_push, get_or-map}
 use Rattle.std.proofs.lemmas.Option.{slice_get_within, get_or_from_slice_get}
-use Rattle.std.proofs.lemmas.List.Elements.{All-contains, Contains-get_or, Contains-append_left, Contains-append_right, Contains-push, Contains-push_cases}
-use Rattle.std.proofs.lemmas.List.Sorted.{Contains-permutation, IsPermutation-map, IsPermutation-sym}
+use Rattle.std.proofs.lemmas.List.Elements.{All-contains, Contains-get_or, Contains-append_left, Contains-push, Contains-push_cases}
+use Rattle.std.proofs.lemmas.List.Sorted.{Contains-permutation, IsPermutation-sym}
 use Rattle.std.specs.List.{All}
 use Rattle.std.specs.List.Sorted.{IsPermutation, IsStrictlySortedBy}
 use Rattle.std.specs.Option.{MatchOption}
@@ -18,7 +17,7 @@ use Rattle.wh_sets.specs.TupleSets.{IsAdded}
 use Rattle.wh_sets.proofs.Additions.{added_either}
 use Rattle.wh_words.proofs.Elements.{contains_none, contains_map, map_contains}
 use Rattle.wh_level.specs.PlacedTuples.{IsPlacing}
-use Rattle.wh_level.specs.Trees.{LevelData, IsClosed}
+use Rattle.wh_level.specs.Trees.{LevelData, IsClosedLevel}
 use Rattle.wh_level.specs.Sealings.{IsMissed}
 use Rattle.wh_level.specs.Searches.{IsAbsentImage}
 
@@ -217,8 +216,8 @@ within_level root rows ps p all = λ k d h.
     subst (InLevel root) r.2 (All-contains (λ x. InLevel root (row_tuple x)) rows r.0 all r.1)
 
 -- ---- what sealing answers
-pub closed_of : (root : TupleData) (rows : List Row) (ps : List TupleData) (level : LevelData) → IsPlacing (map row_tuple rows) ps → IsClosed level → level.root ≡ root → level.tuples ≡ ps
-    → IsClosed level × (level.root ≡ root) × ((t : TupleData) → Contains level.tuples t ↔ Contains (map row_tuple rows) t)
+pub closed_of : (root : TupleData) (rows : List Row) (ps : List TupleData) (level : LevelData) → IsPlacing (map row_tuple rows) ps → IsClosedLevel level → level.root ≡ root → level.tuples ≡ ps
+    → IsClosedLevel level × (level.root ≡ root) × ((t : TupleData) → Contains level.tuples t ↔ Contains (map row_tuple rows) t)
 closed_of root rows ps level p closed is copied = (
   closed,
   is,

@@ -1,23 +1,20 @@
 -- The places of the tuples of rows, and the numbers of their rows.
-use Rattle.std.proofs.Common.{◌≡◌, ◌⊎◌, map, ◌≢◌, ℕ, ◌+◌, ◌<◌, ◌≤◌, List, [], length, get_or, set, replicate, Option, Some, None, slice_get, Contains, refl, sym, ap, ◌∙◌, subst, arith, rules, inl, inr, ⊎_elim}
+use Rattle.std.proofs.Common.{◌≡◌, ◌⊎◌, map, ℕ, ◌+◌, ◌<◌, ◌≤◌, List, [], length, get_or, set, Option, Some, None, slice_get, Contains, sym, ap, ◌∙◌, subst, arith, rules, inl, inr, ⊎_elim}
 use Rattle.std.specs.Prelude.{IsSome}
 use Rattle.std.proofs.lemmas.Bool.{cases_order}
 use Rattle.std.proofs.lemmas.List.{get_or-set_other, length-set}
 use Rattle.std.proofs.lemmas.List.Sorted.{Contains-permutation, IsPermutation-sym}
-use Rattle.std.proofs.lemmas.Map.Keys.{Less-from_sorted}
 use Rattle.std.proofs.lemmas.Option.{slice_get-get_or, slice_get-map, slice_get_within, get_or_from_slice_get}
 use Rattle.std.proofs.lemmas.Grind.{get_or-set_at}
 use Rattle.std.specs.List.Sorted.{IsStrictlySortedBy, IsPermutation}
 use Rattle.std.specs.Option.{MatchOption, option_map}
-use Rattle.std.specs.declared.cmp.Ordering.TheVariants.{Less}
 use Rattle.wh_words.specs.Tuples.{TupleData, tuple_cmp}
-use Rattle.wh_words.proofs.SameTuples.{tuple_cmp_total}
 use Rattle.wh_expand.specs.Rows.{row_tuple}
 use Rattle.wh_expand.specs.declared.row.Row.{Row}
 use Rattle.wh_sets.specs.TupleSets.{AreAdded}
 use Rattle.wh_sets.proofs.Additions.{same_tuples}
 use Rattle.wh_level.specs.PlacedTuples.{IsPlacing, AreRowNumbers}
-use Rattle.wh_level.proofs.LawProofs.{less_itself}
+use Rattle.wh_level.proofs.SearchEnds.{same_places}
 
 -- ---- the tuples in order
 pub placed_sorted : (ts old new : List TupleData) → AreAdded [] ts old → IsPermutation old new → IsStrictlySortedBy tuple_cmp new → IsPlacing ts new
@@ -49,16 +46,6 @@ pub record AreNumbersTo (ts places : List TupleData) (n : ℕ) (numbers : List �
 pub numbers_start : (ts places : List TupleData) (numbers : List ℕ) → length numbers ≡ length places → AreNumbersTo ts places 0 numbers
 numbers_start ts places numbers e = record { count = e; rows = λ v k t l at is. absurd (omega arith) }
 
--- A tuple has one place.
-one_place : (places : List TupleData) (v p : ℕ) (t : TupleData) → IsStrictlySortedBy tuple_cmp places → slice_get places v ≡ Some t → slice_get places p ≡ Some t → v ≡ p
-one_place places v p t sorted at here =
-    ⊎_elim (λ e. e) (λ d. ⊎_elim (λ l. absurd (twice v p l at here)) (λ l. absurd (twice p v l here at)) d) (cases_order v p)
-  where
-    twice : (j k : ℕ) → j < k → slice_get places j ≡ Some t → slice_get places k ≡ Some t → ⊥
-    twice j k l first second = less_itself tuple_cmp_total t
-        (subst (λ u. tuple_cmp u t ≡ Less) (get_or_from_slice_get places j t t first)
-        (subst (λ u. tuple_cmp (get_or places j t) u ≡ Less) (get_or_from_slice_get places k t t second) (Less-from_sorted tuple_cmp places j k t sorted l (slice_get_within places k t second))))
-
 pub numbers_more : (ts places : List TupleData) (numbers new : List ℕ) (n p : ℕ) (u : TupleData) → IsStrictlySortedBy tuple_cmp places → AreNumbersTo ts places n numbers → slice_get ts n ≡ Some u → slice_get places p ≡ Some u → new ≡ set numbers p n →
     AreNumbersTo ts places (n + 1) new
 numbers_more ts places numbers new n p u sorted before row at is = subst (AreNumbersTo ts places (n + 1)) (sym is) (record {
@@ -66,7 +53,7 @@ numbers_more ts places numbers new n p u sorted before row at is = subst (AreNum
   rows = λ v k t l there stands. ⊎_elim
       (λ here. ap (slice_get ts) (get_or-set_at numbers p v n 0 here within) ∙ row ∙ sym at ∙ ap (slice_get places) (sym here) ∙ there)
       (λ other. ap (slice_get ts) (get_or-set_other numbers p v n 0 (λ e. either (λ b. omega (arith, b, e)) (λ a. omega (arith, a, e)) other)) ∙ ⊎_elim
-      (λ last. absurd (either (λ b. omega (arith, b, one_place places v p u sorted (there ∙ sym stands ∙ ap (slice_get ts) last ∙ row) at)) (λ a. omega (arith, a, one_place places v p u sorted (there ∙ sym stands ∙ ap (slice_get ts) last ∙ row) at)) other))
+      (λ last. absurd (either (λ b. omega (arith, b, same_places places v p u sorted (there ∙ sym stands ∙ ap (slice_get ts) last ∙ row) at)) (λ a. omega (arith, a, same_places places v p u sorted (there ∙ sym stands ∙ ap (slice_get ts) last ∙ row) at)) other))
       (λ order. ⊎_elim (λ below. before.rows v k t below there stands) (λ above. absurd (omega (arith, above, l))) order)
       (cases_order k n))
       (cases_order v p);

@@ -137,7 +137,7 @@ module _ {root : TupleData} {tuples : List TupleData} {s : SearchData} {at v : �
   }
 
 -- ---- the end
-same_places : (tuples : List TupleData) (v w : ℕ) (t : TupleData) → IsStrictlySortedBy tuple_cmp tuples → slice_get tuples v ≡ Some t → slice_get tuples w ≡ Some t → v ≡ w
+pub same_places : (tuples : List TupleData) (v w : ℕ) (t : TupleData) → IsStrictlySortedBy tuple_cmp tuples → slice_get tuples v ≡ Some t → slice_get tuples w ≡ Some t → v ≡ w
 same_places tuples v w t sorted h k = elim (cases_lt v w) [
   | inl l ↦ absurd (less_at v w h k l)
   | inr l ↦ elim (cases_lt w v) [

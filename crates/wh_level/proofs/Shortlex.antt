@@ -1,12 +1,12 @@
 -- Walks in their order: by length, and then move by move.
-use Rattle.std.proofs.Common.{◌≡◌, ℕ, ◌+◌, ◌<◌, ◌≤◌, false, List, [], ◌∷◌, ◌++◌, length, refl, sym, ap, ◌∙◌, subst, arith}
+use Rattle.std.proofs.Common.{◌≡◌, ℕ, ◌+◌, ◌<◌, ◌≤◌, false, List, [], ◌∷◌, ◌++◌, length, refl, sym, ap, ◌∙◌, arith}
 use Rattle.std.proofs.lemmas.Bool.{true≢false}
 use Rattle.std.proofs.lemmas.Cmp.{upto, tied_itself, ranked}
 use Rattle.std.proofs.lemmas.List.{length_push}
-use Rattle.std.specs.Cmp.{IsTotalOrder, on_total, then_total, nat_cmp_total}
-use Rattle.std.specs.Cmp.Lexicographic.{slice_cmp, nat_list_cmp_total, lists_total}
+use Rattle.std.specs.Cmp.{IsTotalOrder, on_total, then_total, nat_cmp_total, nat_cmp_is}
+use Rattle.std.specs.Cmp.Lexicographic.{slice_cmp, lists_total}
 use Rattle.std.specs.FinMap.{nat_cmp-IsAntisymmetric, slice_cmp-IsAntisymmetric}
-use Rattle.std.specs.Ordering.{is_lt, is_gt, nat_cmp, ordering_then, MatchOrdering}
+use Rattle.std.specs.Ordering.{is_gt, nat_cmp, ordering_then, MatchOrdering}
 use Rattle.std.specs.declared.cmp.Ordering.{Ordering}
 use Rattle.std.specs.declared.cmp.Ordering.TheVariants.{Less, Equal, Greater}
 use Rattle.wh_words.specs.Moves.{Move, move_cmp}
@@ -80,11 +80,8 @@ earlier_pushed {p} {q} m n h = record { holds = pushed p q m n ∙ ap (λ o. ord
 pub earlier_by_move : (p : List Move) (m n : Move) → move_cmp m n ≡ Less → Earlier (p ++ m ∷ []) (p ++ n ∷ [])
 earlier_by_move p m n h = record { holds = pushed p p m n ∙ ap (λ o. ordering_then o (move_cmp m n)) (tied_itself walk_cmp_total p) ∙ h }
 
-less_when_below : (a b : ℕ) → a < b → nat_cmp a b ≡ Less
-less_when_below a b h = grind arith
-
 pub earlier_when_shorter : (p q : List Move) → length p < length q → Earlier p q
-earlier_when_shorter p q h = record { holds = ap (λ o. ordering_then o (slice_cmp move_cmp p q)) (less_when_below (length p) (length q) h) }
+earlier_when_shorter p q h = record { holds = ap (λ o. ordering_then o (slice_cmp move_cmp p q)) (sym (nat_cmp_is (length p) (length q) Less h)) }
 
 -- ---- what it says
 not_longer : (o p : Ordering) (a b : ℕ) → MatchOrdering o (a < b) (a ≡ b) (b < a) → is_gt (ordering_then o p) ≡ false → a ≤ b

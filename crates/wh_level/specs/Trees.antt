@@ -34,7 +34,7 @@ pub record LevelData : Type 0 where
   pub parents : Parents
 
 -- The tuples are the level of the root, whose rank is at most 6, and the parents are theirs.
-pub record IsClosed (l : LevelData) : Type 0 where
+pub record IsClosedLevel (l : LevelData) : Type 0 where
   pub rank : l.root.rank ≤ most_level_rank
   pub level : IsLevel l.root l.tuples
   pub parents : AreParents l.root l.tuples l.parents

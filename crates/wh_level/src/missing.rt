@@ -1,5 +1,5 @@
 //! The tuples of a level that rows miss.
-ghost use Rattle.std.specs.Prelude.{◌≡◌, ◌⊎◌, ◌↔◌, map, Contains, IfOk, OnOk};
+ghost use Rattle.std.specs.Prelude.{◌≡◌, ◌⊎◌, ◌↔◌, [], map, Contains, IfOk, OnOk};
 ghost use Rattle.std.specs.List.{All};
 ghost use Rattle.std.specs.List.Sorted.{IsStrictlySortedBy};
 ghost use Rattle.wh_words.specs.Tuples.{TupleData, tuple_cmp};
@@ -35,6 +35,32 @@ fn add_absent(
     Ok(())
 }
 
+/// The root and the images of rows that have no row, in order and each once, which are gathered in `found`.
+fn missing_in(
+    alloc: Global,
+    root: &Tuple,
+    rows: &[Row],
+    places: &TupleSet,
+    found: &mut TupleSet,
+    image: &mut Tuple,
+) -> Result<List<Tuple>, OutOfMemory>
+    requires rows { All IsRow rows.now }
+    requires placing { IsPlacing (map row_tuple rows.now) places.now }
+    requires none_found { found.old ≡ [] }
+    requires rooms { All (λ r. HasRoomsFor image.old (row_tuple r)) rows.now }
+    ensures sorted { IfOk result (λ list. IsStrictlySortedBy tuple_cmp (map (λ t. t.plain) list)) }
+    ensures exact { IfOk result (λ list. (t : TupleData) → Contains (map (λ u. u.plain) list) t ↔ IsMissed root.now.plain (map row_tuple rows.now) t) }
+{
+    if places.place(root).is_none() {
+        found.add(alloc, root)?;
+    }
+    for row in rows {
+        add_absent(alloc, found, places, row, image)?;
+    }
+    found.sort()?;
+    Ok(List::of(found.copies(alloc)?))
+}
+
 /// The root and the images of rows that have no row, in order and each once.
 pub(crate) fn missing(
     alloc: Global,
@@ -50,12 +76,5 @@ pub(crate) fn missing(
     ensures exact { IfOk result (λ list. (t : TupleData) → Contains (map (λ u. u.plain) list) t ↔ IsMissed root.now.plain (map row_tuple rows.now) t) }
 {
     let mut found = TupleSet::new(alloc);
-    if places.place(root).is_none() {
-        found.add(alloc, root)?;
-    }
-    for row in rows {
-        add_absent(alloc, &mut found, places, row, image)?;
-    }
-    found.sort()?;
-    Ok(List::of(found.copies(alloc)?))
+    missing_in(alloc, root, rows, places, &mut found, image)
 }

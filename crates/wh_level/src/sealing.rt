@@ -5,7 +5,7 @@ ghost use Rattle.wh_words.specs.Limits.{most_level_rank};
 ghost use Rattle.wh_words.specs.Levels.{InLevel, IsLevel};
 ghost use Rattle.wh_expand.specs.Rows.{IsRow, row_tuple};
 ghost use Rattle.wh_level.specs.Sealings.{Seals};
-ghost use Rattle.wh_level.specs.Trees.{AreParents, IsClosed};
+ghost use Rattle.wh_level.specs.Trees.{AreParents, IsClosedLevel};
 ghost use Rattle.wh_level.specs.PlacedTuples.{HasRoomsFor, IsPlacing};
 
 use crate::level::Level;
@@ -46,7 +46,7 @@ fn level_of(
     requires parents { AreParents root.now.plain places.now parents.items }
     ensures root { IfOk result (λ level. level.root ≡ root.now.plain) }
     ensures tuples { IfOk result (λ level. level.tuples ≡ places.now) }
-    ensures closed { IfOk result IsClosed }
+    ensures closed { IfOk result IsClosedLevel }
 {
     Ok(Level {
         root: root.copy(alloc)?,

@@ -2,7 +2,7 @@
 ghost use Rattle.std.specs.Prelude.{◌≡◌, IfOk};
 ghost use Rattle.wh_words.specs.Tuples.{own_room};
 ghost use Rattle.wh_words.specs.Traces.{IsFlat};
-ghost use Rattle.wh_words.specs.CapacityTraces.{IsTight, IsCapacityTrace};
+ghost use Rattle.wh_words.specs.CapacityTraces.{IsFlatByCapacities, IsCapacityTrace};
 
 use crate::step::shorten;
 use std::alloc::Global;
@@ -23,7 +23,7 @@ fn shorten_all(alloc: Global, end: &mut Tuple, spare: &mut Tuple) -> Result<Vec<
     requires end { end.old ≡ own_room end.old.plain }
     requires spare { spare.old ≡ end.old }
     ensures trace { IfOk result (λ v. IsCapacityTrace end.old.plain v.items end.new.plain) }
-    ensures tight { IfOk result (λ _. IsTight end.new.plain) }
+    ensures flat { IfOk result (λ _. IsFlatByCapacities end.new.plain) }
 {
     let mut moves = Vec::new(alloc);
     while let Some(m) = shorten(end) {
@@ -38,19 +38,19 @@ fn shorten_all(alloc: Global, end: &mut Tuple, spare: &mut Tuple) -> Result<Vec<
 fn shorten_fully(alloc: Global, end: &mut Tuple) -> Result<Vec<Move>, OutOfMemory>
     requires { end.old ≡ own_room end.old.plain }
     ensures trace { IfOk result (λ v. IsCapacityTrace end.old.plain v.items end.new.plain) }
-    ensures tight { IfOk result (λ _. IsTight end.new.plain) }
+    ensures flat { IfOk result (λ _. IsFlatByCapacities end.new.plain) }
 {
     let mut spare = end.copy(alloc)?;
     shorten_all(alloc, end, &mut spare)
 }
 
-/// The trace of a tuple: its step, the step of the tuple after it, and so on, until the tuple is tight, so that no cut
+/// The trace of a tuple: its step, the step of the tuple after it, and so on, until the tuple is flat, so that no cut
 /// shortens it (Lyndon and Schupp, I.4; Roig, Ventura and Weil 2007). The end has room for itself alone. It takes memory
 /// for two tuples and the list of moves.
-#[tactic(auto, using(crate::proofs::Traced::tight_is_flat))]
+#[tactic(auto, using(crate::proofs::Traced::flat_from_capacities))]
 pub fn reduce(alloc: Global, tuple: &Tuple) -> Result<Trace, OutOfMemory>
     ensures trace { IfOk result (λ r. IsCapacityTrace tuple.now.plain r.moves r.end.plain) }
-    ensures tight { IfOk result (λ r. IsTight r.end.plain) }
+    ensures by_capacities { IfOk result (λ r. IsFlatByCapacities r.end.plain) }
     ensures flat { IfOk result (λ r. IsFlat r.end.plain) }
     ensures rooms { IfOk result (λ r. r.end ≡ own_room r.end.plain) }
 {

@@ -128,8 +128,8 @@ fn a_commutator_has_fifteen_level_moves(rt: HostRuntime) -> Result<(), Fail> {
 /// The rows of a tuple and of its image under its first level move.
 fn first_rows(alloc: Global, root: &Tuple) -> Result<[Row; 2], Fail>
     requires { root.now.plain.rank ≤ most_level_rank }
-    ensures rows { IfOk result (λ r. All IsRow r.items) }
-    ensures within { IfOk result (λ r. All (λ q. InLevel root.now.plain (row_tuple q)) r.items) }
+    ensures rows { IfOk result (λ r. All IsRow r) }
+    ensures within { IfOk result (λ r. All (λ q. InLevel root.now.plain (row_tuple q)) r) }
 {
     let own = row(alloc, root)?;
     let m = own.moves.items().first().copied().ok_or("no move")?;

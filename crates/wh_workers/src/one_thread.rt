@@ -1,14 +1,12 @@
 //! Exploring a level on one thread.
-ghost use Rattle.std.specs.Prelude.{◌≡◌, ℕ, ◌+◌, ◌<◌, ◌≤◌, length, map, IfOk, OnOk, IfSome};
+ghost use Rattle.std.specs.Prelude.{◌≡◌, ℕ, ◌+◌, ◌<◌, ◌≤◌, [], length, map, IfOk, OnOk};
 ghost use Rattle.std.specs.List.{All, IsDistinct};
 ghost use Rattle.std.specs.Bool.{MatchBool};
-ghost use Rattle.std.specs.Option.{MatchOption};
 ghost use Rattle.std.specs.Ordering.{eq_by_cmp};
 ghost use Rattle.wh_words.specs.Limits.{most_level_rank};
 ghost use Rattle.wh_words.specs.Tuples.{tuple_cmp};
-ghost use Rattle.wh_words.specs.Levels.{InLevel, HasMoreThan};
 ghost use Rattle.wh_expand.specs.Rows.{IsRow, row_tuple};
-ghost use Rattle.wh_workers.specs.Explorations.{Explores, CountsTuples, HasRoomFor, HasMetImages, IsWhole};
+ghost use Rattle.wh_workers.specs.Explorations.{Explores, Expands, CountsTuples, CountsRows, HasRoomFor, HasMetImages, IsWhole};
 
 use crate::explored::Explored;
 use std::alloc::Global;
@@ -66,35 +64,57 @@ fn closed(alloc: Global, root: &Tuple, rows: &[Row]) -> Result<Explored, OutOfMe
     }
 }
 
-/// The rows of all tuples of the level of a root, whose rank is at most 6, each expanded once. None comes exactly where
-/// the level has more tuples than the limit.
-fn all_rows<L: Ledger>(
+/// Expands all tuples of the level of a root, whose rank is at most 6, each once: `known` gets the tuples, and `rows` their
+/// rows. False comes exactly where the level has more tuples than the limit.
+fn expand_known<L: Ledger>(
     alloc: Global,
     root: &Tuple,
     limit: u32,
     known: &mut TupleSet,
+    rows: &mut Vec<Row>,
     scratch: &mut Tuple,
     steps: &mut Steps<L>,
-) -> Result<Option<Vec<Row>>, OutOfMemory>
+) -> Result<bool, OutOfMemory>
     requires rank { root.now.plain.rank ≤ most_level_rank }
-    requires none_known { length known.old ≡ 0 }
+    requires none_known { known.old ≡ [] }
+    requires none_expanded { rows.old.items ≡ [] }
     requires room { HasRoomFor scratch.old root.now.plain }
-    ensures rows { IfOk result (λ o. MatchOption o (HasMoreThan root.now.plain limit) (λ rows. All IsRow rows.items × IsWhole root.now.plain (map row_tuple rows.items) × (length rows.items ≤ limit))) }
-    ensures steps { IfOk result (λ o. IfSome o (λ rows. steps.new ≡ steps.old + length rows.items)) }
+    ensures expanded { IfOk result (Expands root.now.plain limit rows.new.items) }
+    ensures steps { IfOk result (CountsRows steps.old steps.new rows.new.items) }
     ensures counted { steps.old ≤ steps.new }
     ensures bounded { steps.new ≤ steps.old + limit }
 {
     known.add(alloc, root)?;
-    let mut rows = Vec::new(alloc);
     'expand: while rows.len() < known.len() {
         if exceeds(known, limit) {
-            return Ok(None);
+            return Ok(false);
         }
         let row = level_moves(alloc, known.tuple(rows.len()), steps)?;
         meet_images(alloc, &row, limit, known, scratch)?;
         rows.push(row)?;
     }
-    Ok(Some(rows))
+    Ok(true)
+}
+
+/// Expands all tuples of the level of a root, whose rank is at most 6, each once: `rows` gets their rows. False comes
+/// exactly where the level has more tuples than the limit.
+fn expand_all<L: Ledger>(
+    alloc: Global,
+    root: &Tuple,
+    limit: u32,
+    rows: &mut Vec<Row>,
+    steps: &mut Steps<L>,
+) -> Result<bool, OutOfMemory>
+    requires rank { root.now.plain.rank ≤ most_level_rank }
+    requires none_expanded { rows.old.items ≡ [] }
+    ensures expanded { IfOk result (Expands root.now.plain limit rows.new.items) }
+    ensures steps { IfOk result (CountsRows steps.old steps.new rows.new.items) }
+    ensures counted { steps.old ≤ steps.new }
+    ensures bounded { steps.new ≤ steps.old + limit }
+{
+    let mut scratch = Tuple::with_room(alloc, root.rank(), root.count(), root.length() as usize)?;
+    let mut known = TupleSet::new(alloc);
+    expand_known(alloc, root, limit, &mut known, rows, &mut scratch, steps)
 }
 
 /// The level of a root of rank 6 at most, or `Passed`, which comes exactly where it has more tuples than the limit. Each
@@ -112,12 +132,10 @@ pub fn explore_one<L: Ledger>(
     ensures counted { steps.old ≤ steps.new }
     ensures bounded { steps.new ≤ steps.old + limit }
 {
-    let mut scratch = Tuple::with_room(alloc, root.rank(), root.count(), root.length() as usize)?;
-    let mut known = TupleSet::new(alloc);
-    let rows = all_rows(alloc, root, limit, &mut known, &mut scratch, steps);
-    drop(known);
-    match rows? {
-        Some(rows) => closed(alloc, root, &rows),
-        None => Ok(Explored::Passed),
+    let mut rows = Vec::new(alloc);
+    if expand_all(alloc, root, limit, &mut rows, steps)? {
+        closed(alloc, root, &rows)
+    } else {
+        Ok(Explored::Passed)
     }
 }

@@ -1,5 +1,4 @@
-use Rattle.std.proofs.Common.{◌≡◌, ◌<◌, ◌≤◌, ◌∙◌, ℕ, Some, slice_get, length, sym, ap, subst, arith, map}
-use Rattle.std.proofs.lemmas.List.{length-map}
+use Rattle.std.proofs.Common.{◌≡◌, ◌<◌, ◌≤◌, ◌∙◌, Some, slice_get, length, sym, ap, subst, arith, map}
 use Rattle.std.proofs.lemmas.Option.{slice_get_within}
 use Rattle.wh_words.specs.Tuples.{TupleData}
 use Rattle.wh_expand.specs.Rows.{row_tuple}

@@ -2,13 +2,13 @@ use Rattle.std.proofs.Common.{rules, ◌≡◌, length, ◌∷◌, [], Some, sli
 use Rattle.std.proofs.lemmas.List.{length-append}
 use Rattle.wh_expand.specs.Rows.{row_tuple}
 use Rattle.wh_workers.proofs.Exploring.{IsExploring, exploring_start, exploring_more, exploring_end, next_rank, next_room}
-use Rattle.wh_workers.proofs.one_thread.all_rows.Goals as goal
+use Rattle.wh_workers.proofs.one_thread.expand_known.Goals as goal
 
 pub expand-init : goal.expand-init
 expand-init g c = (
-  exploring_start c.args.root.now.plain c.args.limit c.args.known.now c.add.new.self c.new-rows.result.items c.requires.none_known c.in_ok-add.ensures.added c.new-rows.ensures.items,
+  exploring_start c.args.root.now.plain c.args.limit c.args.known.now c.add.new.self c.args.rows.now.items (ap length c.requires.none_known) c.in_ok-add.ensures.added c.requires.none_expanded,
   c.requires.room,
-  omega (arith, ap length c.new-rows.ensures.items),
+  omega (arith, ap length c.requires.none_expanded),
 )
 
 pub level_moves-requires : goal.level_moves-requires
@@ -32,8 +32,8 @@ expand-preserved g c =
       omega (arith, c.in_ok-row.ensures.step, c.expand.invariant.2, ap length c.in_ok-push.ensures.items, length-append c.expand.rows.items (c.in_ok-row.row ∷ [])),
     )
 
-pub returns-clause-rows : goal.returns-clause-rows
-returns-clause-rows g c = (
+pub returns-clause-expanded : goal.returns-clause-expanded
+returns-clause-expanded g c = (
   c.expand.invariant.0.rows_are,
   exploring_end c.args.root.now.plain c.args.limit c.expand.known c.expand.rows.items c.len-in-expand.ensures.distinct c.expand.invariant.0 (search rules),
   c.expand.invariant.0.few,

@@ -4,8 +4,8 @@ use Rattle.wh_words.specs.Tuples.{Tuple}
 use Rattle.wh_expand.specs.declared.row.Row.{Row}
 use Rattle.wh_level.proofs.Absent.{FoundOf, found_of_start, found_of_root, found_of_more, missed_found, absent_from, there_from}
 use Rattle.wh_level.proofs.Rooms.{rooms_itself, rooms_then}
-use Rattle.wh_level.proofs.missing.missing.Goals.{then-is_none+in_ok-add, else-is_none}
-use Rattle.wh_level.proofs.missing.missing.Goals as goal
+use Rattle.wh_level.proofs.missing.missing_in.Goals.{then-is_none+in_ok-add, else-is_none}
+use Rattle.wh_level.proofs.missing.missing_in.Goals as goal
 
 pub loop-row-init : goal.loop-row-init
 loop-row-init c = record {
@@ -13,14 +13,14 @@ loop-row-init c = record {
   found = elim c.if-is_none.branch [
     | then-is_none+in_ok-add w ↦
         subst (FoundOf c.args.root.now.plain c.args.places.now []) (sym w.found-is)
-        (found_of_root c.args.root.now.plain c.args.places.now c.new-found.result w.add.new.self
+        (found_of_root c.args.root.now.plain c.args.places.now c.args.found.now w.add.new.self
         (absent_from c.args.places.now c.args.root.now.plain c.place.result c.is_none.result c.place.ensures c.is_none.ensures w.if-is_none.true)
-        c.new-found.ensures w.in_ok-add.ensures.added)
+        c.requires.none_found w.in_ok-add.ensures.added)
     | else-is_none w ↦
         subst (FoundOf c.args.root.now.plain c.args.places.now []) (sym w.found-is)
-        (found_of_start c.args.root.now.plain c.args.places.now c.new-found.result
+        (found_of_start c.args.root.now.plain c.args.places.now c.args.found.now
         (there_from c.args.places.now c.args.root.now.plain c.place.result c.is_none.result c.place.ensures c.is_none.ensures w.if-is_none.false)
-        c.new-found.ensures)
+        c.requires.none_found)
   ];
 }
 

@@ -1,7 +1,7 @@
 use Rattle.std.proofs.Common.{◌≡◌, ◌+◌, ◌-◌, length}
 use Rattle.wh_workers.specs.Explorations.{HasRoomFor}
 use Rattle.wh_workers.proofs.Exploring.{IsExploring}
-use Rattle.wh_workers.proofs.one_thread.all_rows.Given as goal
+use Rattle.wh_workers.proofs.one_thread.expand_known.Given as goal
 
 abbrev pub invariant-expand : goal.invariant-expand
 invariant-expand g l = IsExploring l.root.plain l.limit l.known l.rows.items × HasRoomFor l.scratch l.root.plain × (l.steps ≡ l.fn.steps + length l.rows.items)

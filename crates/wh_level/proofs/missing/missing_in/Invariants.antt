@@ -1,7 +1,7 @@
 use Rattle.std.proofs.Common.{take}
 use Rattle.wh_level.specs.PlacedTuples.{KeepsRooms}
 use Rattle.wh_level.proofs.Absent.{FoundOf}
-use Rattle.wh_level.proofs.missing.missing.Given as goal
+use Rattle.wh_level.proofs.missing.missing_in.Given as goal
 
 abbrev pub invariant-loop-row : goal.invariant-loop-row
 invariant-loop-row l = record {

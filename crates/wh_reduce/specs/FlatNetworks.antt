@@ -6,8 +6,8 @@ use Rattle.wh_words.specs.Flows.{degree, capacity_of_set, Separates, IsLeastCut}
 use Rattle.wh_flow.specs.Nets.{Net, cell}
 
 -- No set that separates a letter from its inverse has a capacity below the letter's degree.
-abbrev pub IsTightNetworkAt : Net → ℕ → Type 0
-IsTightNetworkAt net a = (set : ℕ → Bool) → Separates a (inverse_letter a) set → degree (cell net.cells) a ≤ capacity_of_set (cell net.cells) set
+abbrev pub IsFlatNetworkAt : Net → ℕ → Type 0
+IsFlatNetworkAt net a = (set : ℕ → Bool) → Separates a (inverse_letter a) set → degree (cell net.cells) a ≤ capacity_of_set (cell net.cells) set
 
 -- The set of letters of the rank is the least cut between a letter and its inverse, and has a capacity below the letter's degree.
 pub record IsLeastCutBelow (net : Net) (a set : ℕ) : Type 0 where
