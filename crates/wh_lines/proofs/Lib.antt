@@ -17,3 +17,4 @@ pub mod RestRows
 pub mod BadBytes
 pub mod TakenLines
 pub mod ExactReadings
+pub mod LocalReadings

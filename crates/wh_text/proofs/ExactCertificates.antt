@@ -107,7 +107,7 @@ exact_rank c =
     }
 
 -- ---- all before the last line
-abbrev body : Reading → Result (AnswerRead × Reading) ReadError
+abbrev pub body : Reading → Result (AnswerRead × Reading) ReadError
 body p = heading_after p >>= λ c. refused_as in_answer (rank_after c.0 c.1) >>= λ n. answer_with c.0 n.0 n.1
 
 abbrev Body : List Row → AnswerRead → Type 0
@@ -269,10 +269,10 @@ bind_bind : {A B C : Type 0} (r : Result A ReadError) (f : A → Result B ReadEr
 bind_bind (Ok x) f g = refl
 bind_bind (Err e) f g = refl
 
-abbrev finish : AnswerRead × Reading → Result (AnswerRead × Reading) ReadError
+abbrev pub finish : AnswerRead × Reading → Result (AnswerRead × Reading) ReadError
 finish x = with_end x.0 x.1
 
-answer_split : (p : Reading) → answer_after p ≡ (body p >>= finish)
+pub answer_split : (p : Reading) → answer_after p ≡ (body p >>= finish)
 unfolding answer_after
 answer_split p = by (heading_after p)
   where
@@ -281,7 +281,7 @@ answer_split p = by (heading_after p)
     by (Ok c) = bind_bind (refused_as in_answer (rank_after c.0 c.1)) (λ n. answer_with c.0 n.0 n.1) finish
     by (Err e) = refl
 
-abbrev certified : AnswerRead × Reading → Result CertificateData ReadError
+abbrev pub certified : AnswerRead × Reading → Result CertificateData ReadError
 certified read = Ok (record { answer = read.0.answer; lines = read.1.taken; flow_heads = read.0.heads })
 
 certificate_is : (bytes : List ℕ) (c : CertificateData) → certificate bytes ≡ Ok c → (length bytes ≤ most_answer_bytes) × IsCertificateText bytes c
@@ -309,19 +309,28 @@ certificate_is bytes c e =
       }),
     )
 
-certificate_back : (bytes : List ℕ) (c : CertificateData) → length bytes ≤ most_answer_bytes → IsCertificateText bytes c → certificate bytes ≡ Ok c
-unfolding certificate
-certificate_back bytes c h t =
+-- the answer of a text that is a certificate, whatever its size
+pub answer_back : (bytes : List ℕ) (c : CertificateData) → IsCertificateText bytes c → (x : AnswerRead × Reading) × (answer_after (start bytes) ≡ Ok x) × (certified x ≡ Ok c)
+answer_back bytes c t =
     let at : Reading = start bytes in
     let b = body_again t.rows c.answer c.flow_heads t.told in
     let all = holds_passes 1 [] (lines bytes) t.rows (holds_back 1 (lines bytes) t.rows (record { clean = t.clean; texts = t.kept })) in
     let q : Reading = record { taken = kept_numbers 1 (lines bytes); rest = end all.0 } in
     let passes = passes_split b.0 (done_row ∷ []) at q (subst (λ (rs : List Row). Passes rs at q) b.1 all.1) in
     let x : AnswerRead = record { answer = c.answer; heads = c.flow_heads } in
-    let read : body at ≡ Ok (x, passes.0) = exact_body.back at passes.0 x b.0 b.2 passes.1 in
-    cond-false (ltb most_answer_bytes (length bytes)) (Err (errors.InputTooLong most_answer_bytes)) (answer_after at >>= certified) (is_not_more most_answer_bytes (length bytes) h)
-    ∙ ap (λ r. r >>= certified) (answer_split at ∙ ap (λ r. r >>= finish) read ∙ end_back x passes.0 q all.0 passes.2 refl)
-    ∙ ap (λ ns. Ok (record { answer = c.answer; lines = ns; flow_heads = c.flow_heads })) (sym t.numbers)
+    let read : body at ≡ Ok (x, passes.0) = exact_body.back at passes.0 x b.0 b.2 passes.1 in (
+      (x, q),
+      answer_split at ∙ ap (λ r. r >>= finish) read ∙ end_back x passes.0 q all.0 passes.2 refl,
+      ap (λ ns. Ok (record { answer = c.answer; lines = ns; flow_heads = c.flow_heads })) (sym t.numbers),
+    )
+
+certificate_back : (bytes : List ℕ) (c : CertificateData) → length bytes ≤ most_answer_bytes → IsCertificateText bytes c → certificate bytes ≡ Ok c
+unfolding certificate
+certificate_back bytes c h t =
+    let read = answer_back bytes c t in
+    cond-false (ltb most_answer_bytes (length bytes)) (Err (errors.InputTooLong most_answer_bytes)) (answer_after (start bytes) >>= certified) (is_not_more most_answer_bytes (length bytes) h)
+    ∙ ap (λ r. r >>= certified) read.1
+    ∙ read.2
 
 pub reads_certificates : ReadsCertificates
 reads_certificates bytes c = (certificate_is bytes c, λ p. certificate_back bytes c p.0 p.1)

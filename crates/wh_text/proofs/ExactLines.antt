@@ -53,10 +53,10 @@ unfolding tuple_after
 exact_tuple keyword n h = exact_line keyword (λ k. refused_as in_answer (tuple_at n k.number k.fields)) (IsTupleRow keyword n) (tuple_is_row keyword n h) (tuple_row_back keyword n h)
 
 -- the tuple of a line, where it has so many words
-tell_like : ℕ → ℕ → Kept → Result TupleData ReadError
+unfoldable pub tell_like : ℕ → ℕ → Kept → Result TupleData ReadError
 tell_like n count k = refused_as in_answer (tuple_at n k.number k.fields) >>= λ t. cond (length t.words == count) (Ok t) (Err (errors.BadLine k.number))
 
-abbrev placed : Reading → TupleData → Result (TupleData × Reading) ReadError
+abbrev pub placed : Reading → TupleData → Result (TupleData × Reading) ReadError
 placed p t = Ok (t, p)
 
 like_shape : (r : Result TupleData ReadError) (count l : ℕ) (p : Reading) →
@@ -68,7 +68,7 @@ like_shape (Ok t) count l p = by (length t.words == count)
     by true = refl
     by false = refl
 
-after_shape : (keyword : List ℕ) (n count : ℕ) (r : Result (Kept × Reading) ReadError) →
+pub after_shape : (keyword : List ℕ) (n count : ℕ) (r : Result (Kept × Reading) ReadError) →
     (r >>= λ k. refused_as in_answer (tuple_at n k.0.number k.0.fields) >>= λ t. cond (length t.words == count) (placed k.1 t) (Err (errors.BadLine k.0.number))) ≡ (r >>= λ k. tell_like n count k.0 >>= placed k.1)
 unfolding tell_like
 after_shape keyword n count (Err e) = refl

@@ -12,3 +12,4 @@ pub mod RowCounts
 pub mod ExactCertificates
 pub mod ExactLines
 pub mod ExactAnswers
+pub mod FirstLines

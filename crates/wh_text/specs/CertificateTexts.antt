@@ -1,11 +1,12 @@
 -- Which texts are certificates, in the words of what is written.
-use Rattle.std.specs.Prelude.{◌≡◌, ◌↔◌, ℕ, ◌≤◌, List, [], ◌∷◌, ◌++◌, length, map, Ok, codes}
+use Rattle.std.specs.Prelude.{◌≡◌, ◌↔◌, ℕ, ◌≤◌, List, [], ◌∷◌, ◌++◌, length, map, Ok, Err, codes}
 use Rattle.std.specs.List.{All, sum_by}
 use Rattle.wh_words.specs.Limits.{most_rank, most_level_rank, most_words, most_letters, most_level_tuples}
 use Rattle.wh_words.specs.Words.{IsOfRank}
 use Rattle.wh_words.specs.CyclicWords.{cyclic_word}
 use Rattle.wh_words.specs.Tuples.{TupleData}
 use Rattle.wh_words.specs.Moves.{Move}
+use Rattle.wh_lines.specs.declared.read_error.ReadError.TheVariants as errors
 use Rattle.wh_lines.specs.Lines.{lines}
 use Rattle.wh_lines.specs.Rows.{Row, number_row}
 use Rattle.wh_lines.specs.Laws.{IsClean, field_texts, kept_lines, kept_numbers, texts_of, EachRow}
@@ -114,3 +115,9 @@ pub record IsCertificateText (bytes : List ℕ) (c : CertificateData) : Type 0 w
 -- A certificate is read exactly from a text that is one and isn't too long.
 abbrev pub ReadsCertificates : Type 0
 ReadsCertificates = (bytes : List ℕ) (c : CertificateData) → (certificate bytes ≡ Ok c) ↔ ((length bytes ≤ most_answer_bytes) × IsCertificateText bytes c)
+
+-- What is refused as line l is refused by the lines up to it: no text with the same l first lines is a certificate, whatever its size.
+abbrev pub RefusesByFirstLines : Type 0
+RefusesByFirstLines =
+    (bytes other : List ℕ) (front after others : List (List ℕ)) → certificate bytes ≡ Err (errors.BadLine (length front)) →
+    lines bytes ≡ front ++ after → lines other ≡ front ++ others → (c : CertificateData) → IsCertificateText other c → ⊥

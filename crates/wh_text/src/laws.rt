@@ -1,6 +1,6 @@
 //! Laws of reading, each the contract of an empty function.
 ghost use Rattle.wh_text.specs.ReadingBack.{ReadsBack};
-ghost use Rattle.wh_text.specs.CertificateTexts.{ReadsCertificates};
+ghost use Rattle.wh_text.specs.CertificateTexts.{ReadsCertificates, RefusesByFirstLines};
 ghost use Rattle.wh_text.specs.Laws.{ReadsReduceTexts, ReadsDecideTexts, NamesTheFirstBadByte, CountsRows};
 
 /// A text is accepted exactly where it is spelled as a problem of `reduce`.
@@ -31,4 +31,9 @@ pub fn row_counts()
 /// A text is accepted as a certificate exactly where it is spelled as one.
 pub fn certificates()
     ensures { ReadsCertificates }
+{}
+
+/// A text that is refused at a line is refused by the lines up to it: none with these first lines is a certificate.
+pub fn refused_lines()
+    ensures { RefusesByFirstLines }
 {}
