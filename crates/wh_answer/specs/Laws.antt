@@ -21,11 +21,11 @@ IsProblem (decide s t) = IsTuple s × IsTuple t × (s.rank ≡ t.rank) × (1 ≤
 
 -- A problem has one text and one status that answer it.
 abbrev pub AnswerIsUnique : Type 0
-AnswerIsUnique = (limit : ℕ) (p : ProblemData) (a b : Answer) → IsProblem p → Answers limit p a → Answers limit p b → (answer_text a ≡ answer_text b) × (answer_status a ≡ answer_status b)
+AnswerIsUnique = (limit : ℕ) (p : ProblemData) (a b : Answer) → IsProblem p → Answers limit p a → Answers limit p b → (answer_text (answer_of a) ≡ answer_text (answer_of b)) × (answer_status a ≡ answer_status b)
 
 -- What is answered to a problem that was read is a certificate whose text isn't too long, unless it is undecided.
 abbrev pub AnswersAreReadable : Type 0
-AnswersAreReadable = (limit : ℕ) (p : ProblemData) (a : Answer) → limit ≤ most_level_tuples → IsProblem p → Answers limit p a → IsDecided (answer_of a) → IsReadable a
+AnswersAreReadable = (limit : ℕ) (p : ProblemData) (a : Answer) → limit ≤ most_level_tuples → IsProblem p → Answers limit p a → IsDecided (answer_of a) → IsReadable (answer_of a)
 
 -- A certificate of which all that is asked is so, whoever wrote it, shows this, whatever letters and values its `flow` lines tell.
 abbrev pub ValidShows : Type 0

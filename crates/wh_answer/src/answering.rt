@@ -17,7 +17,7 @@ use wh_words::{OutOfMemory, Tuple};
 /// The answer where a tuple is to be reduced.
 fn reduced(alloc: Global, tuple: &Tuple) -> Result<Answer, OutOfMemory>
     ensures answers { (limit : ℕ) → IfOk result (Answers limit (to_reduce tuple.now.plain)) }
-    ensures printable { IfOk result IsPrintable }
+    ensures printable { IfOk result (λ a. IsPrintable (answer_of a)) }
     ensures valid { IfOk result (λ a. IsDecided (answer_of a) → IsValid (answer_of a)) }
 {
     // The proof takes from these calls that it is a tuple, and of which ranks.
@@ -33,7 +33,7 @@ fn reduced(alloc: Global, tuple: &Tuple) -> Result<Answer, OutOfMemory>
 fn decided(alloc: Global, first: &Tuple, second: &Tuple, limit: u32) -> Result<Answer, OutOfMemory>
     requires { IsAnswerable (to_decide first.now.plain second.now.plain) }
     ensures answers { IfOk result (Answers limit (to_decide first.now.plain second.now.plain)) }
-    ensures printable { IfOk result IsPrintable }
+    ensures printable { IfOk result (λ a. IsPrintable (answer_of a)) }
     ensures valid { IfOk result (λ a. IsDecided (answer_of a) → IsValid (answer_of a)) }
 {
     // The proof takes from these calls that both are tuples.
@@ -58,7 +58,7 @@ fn decided(alloc: Global, first: &Tuple, second: &Tuple, limit: u32) -> Result<A
 pub fn answer(alloc: Global, problem: &Problem, limit: u32) -> Result<Answer, OutOfMemory>
     requires { IsAnswerable (problem_of problem.now) }
     ensures answers { IfOk result (Answers limit (problem_of problem.now)) }
-    ensures printable { IfOk result IsPrintable }
+    ensures printable { IfOk result (λ a. IsPrintable (answer_of a)) }
     ensures valid { IfOk result (λ a. IsDecided (answer_of a) → IsValid (answer_of a)) }
 {
     match problem {

@@ -4,6 +4,7 @@ ghost use Rattle.wh_words.specs.Limits.{most_level_rank, most_level_length};
 ghost use Rattle.wh_words.specs.Tuples.{TupleData, tuple_length};
 ghost use Rattle.wh_words.specs.CapacityTraces.{IsFlatByCapacities};
 ghost use Rattle.wh_words.specs.Levels.{InLevel, IsLevel};
+ghost use Rattle.wh_text.specs.AnswerData.{verdict_of};
 ghost use Rattle.wh_text.specs.AnswerTexts.{IsPrintableVerdict};
 ghost use Rattle.wh_answer.specs.Answers.{IsVerdict};
 ghost use Rattle.wh_answer.specs.Findings.{Finds};
@@ -22,7 +23,7 @@ fn other_lengths(alloc: Global, first: Trace, second: Trace) -> Result<Verdict, 
     requires second_flat { IsFlatByCapacities second.end.plain }
     requires lengths { tuple_length first.end.plain ≢ tuple_length second.end.plain }
     ensures verdict { (limit : ℕ) (s t : TupleData) → AreTraced s t first second → IfOk result (IsVerdict limit s t) }
-    ensures printable { IfOk result IsPrintableVerdict }
+    ensures printable { IfOk result (λ v. IsPrintableVerdict (verdict_of v)) }
 {
     let first = side_of(alloc, first)?;
     let second = side_of(alloc, second)?;
@@ -43,7 +44,7 @@ fn off_level(
     requires level { IsLevel first.end.plain (map (λ u. u.plain) level) }
     requires off { ¬ (InLevel first.end.plain second.end.plain) }
     ensures verdict { (limit : ℕ) (s t : TupleData) → length level ≤ limit → AreTraced s t first second → IfOk result (IsVerdict limit s t) }
-    ensures printable { IfOk result IsPrintableVerdict }
+    ensures printable { IfOk result (λ v. IsPrintableVerdict (verdict_of v)) }
 {
     let first = side_of(alloc, first)?;
     let second = side_of(alloc, second)?;
@@ -61,7 +62,7 @@ fn verdict_by(
     requires second_flat { IsFlatByCapacities second.end.plain }
     requires found { (limit : ℕ) × Finds limit first second found }
     ensures verdict { (limit : ℕ) (s t : TupleData) → Finds limit first second found → AreTraced s t first second → IfOk result (IsVerdict limit s t) }
-    ensures printable { IfOk result IsPrintableVerdict }
+    ensures printable { IfOk result (λ v. IsPrintableVerdict (verdict_of v)) }
 {
     match found {
         Finding::Moves(moves) => Ok(Verdict::Yes(moves)),
@@ -81,7 +82,7 @@ pub fn decide(
     requires rank { first.now.plain.rank ≤ most_level_rank }
     requires one_rank { first.now.plain.rank ≡ second.now.plain.rank }
     ensures verdict { IfOk result (IsVerdict limit first.now.plain second.now.plain) }
-    ensures printable { IfOk result IsPrintableVerdict }
+    ensures printable { IfOk result (λ v. IsPrintableVerdict (verdict_of v)) }
 {
     // The proof takes from these calls that both are tuples.
     first.rank();

@@ -2,6 +2,7 @@
 ghost use Rattle.std.specs.Prelude.{◌≡◌, IfOk};
 ghost use Rattle.wh_words.specs.Tuples.{TupleData};
 ghost use Rattle.wh_words.specs.CapacityTraces.{IsFlatByCapacities, IsCapacityTrace};
+ghost use Rattle.wh_text.specs.AnswerData as told;
 ghost use Rattle.wh_text.specs.AnswerTexts.{IsPrintableSide};
 ghost use Rattle.wh_answer.specs.Answers.{IsSideOf};
 
@@ -15,7 +16,7 @@ pub fn side_of(alloc: Global, trace: Trace) -> Result<Side, OutOfMemory>
     requires { IsFlatByCapacities trace.end.plain }
     ensures side { (t : TupleData) → IsCapacityTrace t trace.moves trace.end.plain → IfOk result (IsSideOf t) }
     ensures own { IfOk result (λ side. (side.trace ≡ trace.moves) × (side.end ≡ trace.end)) }
-    ensures printable { IfOk result IsPrintableSide }
+    ensures printable { IfOk result (λ side. IsPrintableSide (told.side_of side)) }
 {
     let Trace { moves, end } = trace;
     let flows = flows(alloc, &end)?;

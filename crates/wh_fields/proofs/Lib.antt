@@ -3,10 +3,11 @@ pub mod WordLaws
 pub mod TupleLaws
 pub mod LetterMasks
 pub mod PairTables
-pub mod SetTexts
 pub mod RepeatedTexts
+pub mod SetTexts
 pub mod ItemRuns
-pub mod FieldRows
 pub mod ShownFields
 pub mod ReadMoves
 pub mod ReadFlows
+pub mod MoveLaws
+pub mod FlowLaws

@@ -12,15 +12,14 @@ use Rattle.wh_flow.specs.Nets.{cell}
 use Rattle.wh_lines.specs.Lines.{Field}
 use Rattle.wh_lines.specs.Numbers.{number}
 use Rattle.wh_fields.specs.Words.{letter_of, letter_text}
-use Rattle.wh_fields.specs.FlowFields.{flow_value, pair_with, pair_in, pair_from, table_from, FlowData, letter_in, small, flow_in, IsFlowOf}
+use Rattle.wh_fields.specs.FlowFields.{pair_item, pair_fields, flow_row, flow_value, pair_with, pair_in, pair_from, table_from, FlowData, letter_in, small, flow_in, IsFlowOf}
 use Rattle.wh_lines.proofs.Equations.{not_more, split_fields, no_fields}
 use Rattle.wh_lines.proofs.NumberLaws.{reads_numbers}
 use Rattle.wh_fields.proofs.WordLaws.{letter_back}
-use Rattle.wh_fields.proofs.ItemRuns.{items_from}
-use Rattle.wh_fields.proofs.FieldRows.{pair_item, pair_items, flow_row}
+use Rattle.wh_fields.proofs.ItemRuns.{items_from, pair_items, pair_fields_are}
 
 -- ---- pairs
-pair_back : (n x y v : ℕ) (bs : List ℕ) → bs ≡ letter_text x ∷ letter_text y ∷ codes ":" ++ decimal v → n ≤ 26 → x < 2 * n → y < 2 * n → x ≢ y → 0 < v → v < 2 ^ 32 →
+pub pair_back : (n x y v : ℕ) (bs : List ℕ) → bs ≡ letter_text x ∷ letter_text y ∷ codes ":" ++ decimal v → n ≤ 26 → x < 2 * n → y < 2 * n → x ≢ y → 0 < v → v < 2 ^ 32 →
     pair_in n bs ≡ Some (record { from = x; to = y; amount = v })
 unfolding pair_in
 pair_back n x y v bs e h l g other some below =
@@ -192,10 +191,10 @@ pub flow_back : (n g : ℕ) (f : List ℕ) (fs : List Field) → n ≤ 26 → g 
     flow_in n fs ≡ Some (record { head = (2 * g, flow_value f (2 * g)); table = f })
 flow_back n g f fs h l i e =
     let v = flow_value f (2 * g) in
-    let s = split_fields fs (letter_text (2 * g) ∷ []) (decimal v ∷ pair_items n f) e in
-    let t = split_fields s.1 (decimal v) (pair_items n f) s.4 in
+    let s = split_fields fs (letter_text (2 * g) ∷ []) (decimal v ∷ pair_fields n f) e in
+    let t = split_fields s.1 (decimal v) (pair_fields n f) s.4 in
     let below : v < 2 ^ 32 = omega (arith, i.value.least, i.value.below) in
     ap (flow_in n) (s.2 ∙ ap (λ gs. s.0 ∷ gs) t.2)
     ∙ flow_from n (2 * g) v f s.0 t.0 t.1 (ap (letter_in n) s.3 ∙ letter_back n (2 * g) h (omega (arith, l)))
     (ap small ((reads_numbers t.0.bytes v).1 (t.3, omega (arith, below))) ∙ cond-true (ltb v (2 ^ 32)) (Some v) None (lt-ltb v (2 ^ 32) below))
-    (table_back n g f t.1 h i t.4)
+    (table_back n g f t.1 h i (t.4 ∙ pair_fields_are n f))

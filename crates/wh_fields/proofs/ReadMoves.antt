@@ -16,11 +16,11 @@ use Rattle.wh_words.specs.LetterSets.{in_set}
 use Rattle.wh_words.specs.Moves.{Kind, IsKind, IsCut}
 use Rattle.wh_words.specs.Moves.Kind.{swap, invert, cut}
 use Rattle.wh_fields.specs.Words.{letter_of, letter_text}
-use Rattle.wh_fields.specs.MoveFields.{set_below, kind_text, letter_from, set_from, swap_of, invert_of, cut_with, cut_of, kind_from, kind_in}
+use Rattle.wh_fields.specs.MoveFields.{set_item, set_text, kind_text, letter_from, set_from, swap_of, invert_of, cut_with, cut_of, kind_from, kind_in}
 use Rattle.wh_lines.proofs.Scanning.{eq_true, eq_false}
 use Rattle.wh_lines.proofs.NumberLaws.{reads_numbers}
 use Rattle.wh_fields.proofs.WordLaws.{letter_back}
-use Rattle.wh_fields.proofs.ItemRuns.{items_from, set_item, set_is}
+use Rattle.wh_fields.proofs.ItemRuns.{items_from, below_is}
 use Rattle.wh_fields.proofs.ShownFields.{IsDigit, decimal_digits}
 
 -- ---- sets
@@ -62,25 +62,25 @@ set_on n set (suc k) i least h l g =
           ∙ set_on n set k (i + 1) least h l (omega (arith, g)) ∙ ap (λ j. Some (set % 2 ^ j)) (omega arith))
     ]
 
-pub set_back : (n set : ℕ) → n ≤ 26 → set < 2 ^ (2 * n) → set_from n 0 0 (set_below set 52) ≡ Some set
+pub set_back : (n set : ℕ) → n ≤ 26 → set < 2 ^ (2 * n) → set_from n 0 0 (set_text set) ≡ Some set
 set_back n set h l =
     let few : 2 * n ≤ 52 = omega (arith, h) in
     let within : set < 2 ^ 52 = lt_of_lt_of_le l (pow_mono few) in
-    ap (set_from n 0 0) (set_is set 52) ∙ ap (λ s. set_from n s 0 (items_from (set_item set) 0 52)) (omega arith)
+    ap (set_from n 0 0) (below_is (set_item set) 52) ∙ ap (λ s. set_from n s 0 (items_from (set_item set) 0 52)) (omega arith)
     ∙ set_on n set 52 0 0 h l (omega arith) ∙ ap (λ s. Some s) (mod-eq_of_lt within)
 
 -- ---- kinds
 -- a kind that isn't a cut has a digit second
-number_kind : (n b k : ℕ) (bs : List ℕ) → bs ≡ decimal k → k < 2 ^ 64 → kind_from n b bs ≡ cond (b == 115) (swap_of n (Some k)) (cond (b == 105) (invert_of n (Some k)) None)
+pub number_kind : (n b k : ℕ) (bs : List ℕ) → bs ≡ decimal k → k < 2 ^ 64 → kind_from n b bs ≡ cond (b == 115) (swap_of n (Some k)) (cond (b == 105) (invert_of n (Some k)) None)
 number_kind n b k [] e h = absurd (omega (arith, ap length e, decimal_nonempty k h))
 number_kind n b k (d ∷ ds) e h =
     let digit : IsDigit d = All-head IsDigit d ds (subst (All IsDigit) (sym e) (decimal_digits k h)) in
     cond-false (d == 58) (cut_of n ds (letter_of n b)) _ (eq_false d 58 (λ s. omega (arith, digit.1, s)))
     ∙ ap (λ o. cond (b == 115) (swap_of n o) (cond (b == 105) (invert_of n o) None)) ((reads_numbers (d ∷ ds) k).1 (e, h))
 
-cut_back : (n a set : ℕ) → n ≤ 26 → IsCut n a set → cut_of n (set_below set 52) (letter_of n (letter_text a)) ≡ Some (cut a set)
+cut_back : (n a set : ℕ) → n ≤ 26 → IsCut n a set → cut_of n (set_text set) (letter_of n (letter_text a)) ≡ Some (cut a set)
 cut_back n a set h c =
-    ap (cut_of n (set_below set 52)) (letter_back n a h c.of_rank)
+    ap (cut_of n (set_text set)) (letter_back n a h c.of_rank)
     ∙ ap (cut_with a) (set_back n set h c.within)
     ∙ cond-true (in_set set a && not (in_set set (inverse_letter a))) (Some (cut a set)) None
     (ap (λ t. t && not (in_set set (inverse_letter a))) (eq_true (bit_at set a) 1 c.holds) ∙ ap (λ b. not (b == 1)) c.omits)

@@ -12,12 +12,11 @@ use Rattle.wh_words.specs.Moves.{Kind, IsKind}
 use Rattle.wh_words.specs.Moves.Kind.{swap, invert, cut}
 use Rattle.wh_flow.specs.Nets.{cell}
 use Rattle.wh_fields.specs.Words.{letter_text, word_text}
-use Rattle.wh_fields.specs.MoveFields.{set_below, kind_text}
-use Rattle.wh_fields.specs.FlowFields.{flow_value, IsFlowOf}
+use Rattle.wh_fields.specs.MoveFields.{set_item, set_text, kind_text}
+use Rattle.wh_fields.specs.FlowFields.{flow_value, IsFlowOf, pair_item, pair_fields, flow_row}
 use Rattle.wh_lines.proofs.Equations.{both_true, not_nil}
 use Rattle.wh_lines.proofs.PrintedRows.{IsShownByte, IsShown, IsShownRow}
-use Rattle.wh_fields.proofs.ItemRuns.{items_from, set_item, set_is, items_all}
-use Rattle.wh_fields.proofs.FieldRows.{pair_item, pair_items, flow_row}
+use Rattle.wh_fields.proofs.ItemRuns.{items_from, pair_items, pair_fields_are, below_is, items_all}
 
 -- a field of a first byte and others
 pub shown_from : (b : ℕ) (bs : List ℕ) → IsShownByte b → All IsShownByte bs → IsShown (b ∷ bs)
@@ -73,14 +72,14 @@ set_item_shown : (set x : ℕ) → x < 52 → All IsShownByte (set_item set x)
 set_item_shown set x h =
     cond_both (in_set set x) (letter_text x ∷ []) [] (All IsShownByte) (λ _. All-cons IsShownByte (letter_text x) [] (letter_shown x h) (All-nil IsShownByte)) (λ _. All-nil IsShownByte)
 
-set_shown : (set : ℕ) → All IsShownByte (set_below set 52)
-set_shown set = subst (All IsShownByte) (sym (set_is set 52)) (items_all IsShownByte (set_item set) 0 52 52 refl (set_item_shown set))
+set_shown : (set : ℕ) → All IsShownByte (set_text set)
+set_shown set = subst (All IsShownByte) (sym (below_is (set_item set) 52)) (items_all IsShownByte (set_item set) 0 52 52 refl (set_item_shown set))
 
 pub kind_shown : (n : ℕ) (k : Kind) → n ≤ 26 → IsKind n k → IsShown (kind_text k)
 kind_shown n (swap k) h i = shown_from 115 (decimal k) (omega arith, omega arith) (digits_shown k (omega (arith, h, i.1)))
 kind_shown n (invert k) h i = shown_from 105 (decimal k) (omega arith, omega arith) (digits_shown k (omega (arith, h, i.1)))
 kind_shown n (cut a set) h i =
-    shown_from (letter_text a) (codes ":" ++ set_below set 52) (letter_shown a (omega (arith, h, i.of_rank))) (All-cons IsShownByte 58 (set_below set 52) (omega arith, omega arith) (set_shown set))
+    shown_from (letter_text a) (codes ":" ++ set_text set) (letter_shown a (omega (arith, h, i.of_rank))) (All-cons IsShownByte 58 (set_text set) (omega arith, omega arith) (set_shown set))
 
 -- ---- flows
 pair_shown : (x y v : ℕ) → x < 52 → y < 52 → v < 2 ^ 32 → IsShown (letter_text x ∷ letter_text y ∷ codes ":" ++ decimal v)
@@ -93,13 +92,13 @@ pair_item_shown f x y h g l =
     let w = letter_text x ∷ letter_text y ∷ codes ":" ++ decimal (cell f x y) in
     cond_both ((x == y) || (cell f x y == 0)) [] (w ∷ []) (All IsShown) (λ _. All-nil IsShown) (λ _. All-cons IsShown w [] (pair_shown x y (cell f x y) h g l) (All-nil IsShown))
 
-pairs_shown : (n g : ℕ) (f : List ℕ) → n ≤ 26 → IsFlowOf n g f → All IsShown (pair_items n f)
+pairs_shown : (n g : ℕ) (f : List ℕ) → n ≤ 26 → IsFlowOf n g f → All IsShown (pair_fields n f)
 pairs_shown n g f h i =
-    items_all IsShown (λ x. items_from (pair_item f x) 0 (2 * n)) 0 (2 * n) (2 * n) (omega arith) (λ x l.
+    subst (All IsShown) (sym (pair_fields_are n f)) (items_all IsShown (λ x. items_from (pair_item f x) 0 (2 * n)) 0 (2 * n) (2 * n) (omega arith) (λ x l.
     items_all IsShown (pair_item f x) 0 (2 * n) (2 * n) (omega arith) (λ y m.
     let a : x < 52 = omega (arith, h, l) in
     let b : y < 52 = omega (arith, h, m) in
-    pair_item_shown f x y a b (i.small x y a b)))
+    pair_item_shown f x y a b (i.small x y a b))))
 
 pub flow_shown : (n g : ℕ) (f : List ℕ) → n ≤ 26 → g < n → IsFlowOf n g f → IsShownRow (flow_row n (2 * g) f)
 flow_shown n g f h l i =
@@ -107,6 +106,6 @@ flow_shown n g f h l i =
     record {
       keyword = written_shown 102 (codes "low") refl;
       fields =
-          All-cons IsShown (letter_text (2 * g) ∷ []) (decimal v ∷ pair_items n f) (shown_from (letter_text (2 * g)) [] (letter_shown (2 * g) (omega (arith, h, l))) (All-nil IsShownByte))
-          (All-cons IsShown (decimal v) (pair_items n f) (decimal_shown v (omega (arith, i.value.least, i.value.below))) (pairs_shown n g f h i));
+          All-cons IsShown (letter_text (2 * g) ∷ []) (decimal v ∷ pair_fields n f) (shown_from (letter_text (2 * g)) [] (letter_shown (2 * g) (omega (arith, h, l))) (All-nil IsShownByte))
+          (All-cons IsShown (decimal v) (pair_fields n f) (decimal_shown v (omega (arith, i.value.least, i.value.below))) (pairs_shown n g f h i));
     }

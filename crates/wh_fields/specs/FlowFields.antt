@@ -1,9 +1,11 @@
 -- How the fields of a `flow` line tell a letter, a value, and what flows between which letters.
-use Rattle.std.specs.Prelude.{ℕ, ◌||◌, ◌+◌, ◌^◌, ◌==◌, leb, ltb, ◌&&◌, not, cond, List, [], ◌∷◌, Option, Some, None, replicate, slice_set, codes, decimal, get_or, length, suc, zero, ◌*◌, ◌++◌, ◌-◌, ◌<◌, ◌≡◌, ◌≢◌, ◌≤◌}
+use Rattle.std.specs.Prelude.{ℕ, ◌||◌, ◌+◌, ◌^◌, ◌==◌, leb, ltb, ◌&&◌, not, cond, List, [], ◌∷◌, Option, Some, None, replicate, slice_set, codes, decimal, get_or, length, ◌*◌, ◌++◌, ◌-◌, ◌<◌, ◌≡◌, ◌≢◌, ◌≤◌}
 use Rattle.std.specs.Option.{option_and_then}
 use Rattle.wh_words.specs.Flows.{place, inflow, outflow}
+use Rattle.wh_lines.specs.Rows.{Row}
 use Rattle.wh_lines.specs.Lines.{Field}
 use Rattle.wh_lines.specs.Numbers.{number}
+use Rattle.wh_fields.specs.Repeated.{below}
 use Rattle.wh_fields.specs.Words.{letter_of, letter_text}
 use Rattle.wh_flow.specs.Nets.{cell}
 
@@ -61,30 +63,27 @@ flow_in n (f ∷ []) = None
 flow_in n (f ∷ g ∷ fs) =
     option_and_then (λ x. option_and_then (λ v. option_and_then (λ table. Some (record { head = (x, v); table = table })) (table_from n (replicate 2704 0) 0 fs)) (small (number g.bytes))) (letter_in n f.bytes)
 
--- The texts of 0, 1 and so on below k, one after the other.
-unfoldable pub texts_below : (ℕ → List ℕ) → ℕ → List ℕ
-texts_below text zero = []
-texts_below text (suc k) = texts_below text k ++ text k
-
+-- ---- what is written
 -- What flows from x to y, as a field. Where nothing flows, and for a letter and itself, there is none.
-abbrev pub pair_field : List ℕ → ℕ → ℕ → List ℕ
-pair_field f x y = cond ((x == y) || (cell f x y == 0)) [] (32 ∷ letter_text x ∷ letter_text y ∷ codes ":" ++ decimal (cell f x y))
+abbrev pub pair_item : List ℕ → ℕ → ℕ → List (List ℕ)
+pair_item f x y = cond ((x == y) || (cell f x y == 0)) [] ((letter_text x ∷ letter_text y ∷ codes ":" ++ decimal (cell f x y)) ∷ [])
 
 -- The pairs of letters of rank n, by the first letter and then by the second. Within the edges of a graph of this rank nothing else flows.
-abbrev pub pairs_text : ℕ → List ℕ → List ℕ
-pairs_text n f = texts_below (λ x. texts_below (λ y. pair_field f x y) (2 * n)) (2 * n)
+abbrev pub pair_fields : ℕ → List ℕ → List (List ℕ)
+pair_fields n f = below (λ x. below (pair_item f x) (2 * n)) (2 * n)
 
 -- The value of a flow from a letter: what flows out of it less what flows into it.
 abbrev pub flow_value : List ℕ → ℕ → ℕ
 flow_value f a = outflow (cell f) a - inflow (cell f) a
 
--- The line of a flow of rank n from the letter of a generator.
-abbrev pub flow_text : ℕ → ℕ → List ℕ → List ℕ
-flow_text n a f = codes "flow " ++ letter_text a ∷ codes " " ++ decimal (flow_value f a) ++ pairs_text n f ++ codes "\n"
+-- The row of a flow of rank n from the letter of a generator: the letter, the value, and the pairs.
+abbrev pub flow_row : ℕ → ℕ → List ℕ → Row
+flow_row n a f = record { keyword = codes "flow"; fields = (letter_text a ∷ []) ∷ decimal (flow_value f a) ∷ pair_fields n f }
 
--- The lines of flows of rank n, one for each generator.
-abbrev pub flows_text : ℕ → List (List ℕ) → List ℕ
-flows_text n fs = texts_below (λ g. flow_text n (2 * g) (get_or fs g [])) n
+-- The rows of flows of rank n, the first of them of generator g.
+abbrev pub flow_rows : ℕ → ℕ → List (List ℕ) → List Row
+flow_rows n g [] = []
+flow_rows n g (f ∷ fs) = flow_row n (2 * g) f ∷ flow_rows n (g + 1) fs
 
 -- The value of a flow from a letter is at least 0 and below 2 ^ 32.
 pub record HasSmallValue (f : List ℕ) (a : ℕ) : Type 0 where
@@ -103,7 +102,6 @@ pub record IsFlowOf (n g : ℕ) (f : List ℕ) : Type 0 where
   pub of_rank : (x y : ℕ) → x < 52 → y < 52 → 0 < cell f x y → (x < 2 * n) × (y < 2 * n) × (x ≢ y)
   pub value : HasSmallValue f (2 * g)
 
--- ---- what its text tells
 -- The letters and values that the `flow` lines of some flows name, the first of them of generator g.
 abbrev pub heads_from : ℕ → List (List ℕ) → List (ℕ × ℕ)
 heads_from g [] = []

@@ -1,4 +1,5 @@
 -- What fields tell of words, tuples, moves and flows, and how these are written: a file a subject, with its reading and its text.
+pub mod Repeated
 pub mod Words
 pub mod TupleFields
 pub mod MoveFields

@@ -1,15 +1,16 @@
 -- How a field tells a move of a rank.
-use Rattle.std.specs.Prelude.{ℕ, ◌+◌, ◌^◌, ◌==◌, leb, ltb, ◌&&◌, not, cond, List, [], ◌∷◌, Option, Some, None, bit_or, codes, decimal, Result, suc, zero, ◌++◌, ◌≡◌}
+use Rattle.std.specs.Prelude.{ℕ, ◌+◌, ◌^◌, ◌==◌, leb, ltb, ◌&&◌, not, cond, List, [], ◌∷◌, Option, Some, None, bit_or, codes, decimal, Result, map, ◌++◌, ◌≡◌}
 use Rattle.std.specs.Option.{option_and_then}
 use Rattle.wh_words.specs.Letters.{inverse_letter}
 use Rattle.wh_words.specs.LetterSets.{in_set}
 use Rattle.wh_words.specs.Moves.{Kind, IsMove, Move}
 use Rattle.wh_words.specs.Moves.Kind.{swap, invert, cut}
 use Rattle.wh_lines.specs.Numbers.{number}
+use Rattle.wh_fields.specs.Repeated.{below}
 use Rattle.wh_fields.specs.Words.{letter_of, letter_text}
+use Rattle.wh_lines.specs.Rows.{Row}
 use Rattle.wh_lines.specs.Lines.{Field}
 use Rattle.wh_lines.specs.declared.read_error.ReadError.{ReadError}
-use Rattle.std.specs.List.{flat_map}
 use Rattle.wh_lines.specs.Readings.{or_bad_line}
 
 -- The letter that is told, where it isn't before another one.
@@ -63,26 +64,24 @@ move_with n (Some kind) = Some (record { rank = n; kind = kind })
 abbrev pub move_at : ℕ → ℕ → Field → Result Move ReadError
 move_at n l f = or_bad_line l (move_with n (kind_in n f.bytes))
 
--- The letters of a set whose index is below k, rising.
-unfoldable pub set_below : ℕ → ℕ → List ℕ
-set_below set zero = []
-set_below set (suc k) = set_below set k ++ cond (in_set set k) (letter_text k ∷ []) []
+-- The byte of a letter, where a set holds it.
+abbrev pub set_item : ℕ → ℕ → List ℕ
+set_item set x = cond (in_set set x) (letter_text x ∷ []) []
+
+-- The letters of a set, rising.
+abbrev pub set_text : ℕ → List ℕ
+set_text set = below (set_item set) 52
 
 -- The text of a kind of move: `s` or `i` and a number, or a multiplier, `:` and the letters of a set.
 abbrev pub kind_text : Kind → List ℕ
 kind_text (swap k) = codes "s" ++ decimal k
 kind_text (invert k) = codes "i" ++ decimal k
-kind_text (cut a set) = letter_text a ∷ codes ":" ++ set_below set 52
+kind_text (cut a set) = letter_text a ∷ codes ":" ++ set_text set
 
--- A move as a field.
-abbrev pub move_field : Move → List ℕ
-move_field m = 32 ∷ kind_text m.kind
+-- The row of a keyword and moves.
+abbrev pub moves_row : List ℕ → List Move → Row
+moves_row keyword ms = record { keyword = keyword; fields = map (λ m. kind_text m.kind) ms }
 
--- What follows a keyword before moves.
-abbrev pub moves_text : List Move → List ℕ
-moves_text ms = flat_map move_field ms ++ codes "\n"
-
--- ---- answers whose text is a certificate
 -- A move of rank n.
 abbrev pub IsMoveOf : ℕ → Move → Type 0
 IsMoveOf n m = IsMove m × (m.rank ≡ n)

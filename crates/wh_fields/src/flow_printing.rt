@@ -3,7 +3,9 @@ ghost use Rattle.std.specs.Prelude.{◌≡◌, ◌+◌, ◌*◌, ◌<◌, ◌≤
 ghost use Rattle.wh_words.specs.Flows.{outflow, inflow};
 ghost use Rattle.wh_flow.specs.Nets.{cell};
 ghost use Rattle.wh_fields.specs.FlowFields as spec;
-ghost use Rattle.wh_fields.specs.FlowFields.{texts_below, pair_field, pairs_text, flow_text, flows_text, HasSmallValue, HaveLines};
+ghost use Rattle.wh_fields.specs.FlowFields.{HasSmallValue, HaveLines};
+ghost use Rattle.wh_fields.specs.Repeated.{below};
+ghost use Rattle.wh_lines.specs.Rows.{fields_text, row_text, rows_text};
 
 use crate::letter::letter_byte;
 use wh_flow::Flow;
@@ -11,8 +13,9 @@ use wh_lines::print_number;
 use wh_words::{Letter, OutOfMemory, Rank};
 
 /// Writes what flows from `x` to `y` as a field, where that is more than nothing.
+#[tactic(auto, using(crate::proofs::RepeatedTexts::pair_text))]
 fn print_pair(out: &mut Vec<u8>, flow: &Flow, x: Letter, y: Letter) -> Result<(), OutOfMemory>
-    ensures { OnOk result (out.new.items ≡ out.old.items ++ pair_field flow.now x y) }
+    ensures { OnOk result (out.new.items ≡ out.old.items ++ fields_text (spec.pair_item flow.now x y)) }
 {
     let amount = flow.get(x, y);
     if x == y || amount == 0 {
@@ -26,9 +29,9 @@ fn print_pair(out: &mut Vec<u8>, flow: &Flow, x: Letter, y: Letter) -> Result<()
 }
 
 /// Writes what flows from `x` to each letter of the rank.
-#[tactic(auto, using(crate::proofs::RepeatedTexts::texts_start))]
+#[tactic(auto, using(crate::proofs::RepeatedTexts::fields_start))]
 fn print_row(out: &mut Vec<u8>, rank: Rank, flow: &Flow, x: Letter) -> Result<(), OutOfMemory>
-    ensures { OnOk result (out.new.items ≡ out.old.items ++ texts_below (λ y. pair_field flow.now x y) (2 * rank)) }
+    ensures { OnOk result (out.new.items ≡ out.old.items ++ fields_text (below (spec.pair_item flow.now x) (2 * rank))) }
 {
     for y in 0..2 * rank.get() {
         print_pair(out, flow, x, Letter::of_index(y))?;
@@ -37,9 +40,9 @@ fn print_row(out: &mut Vec<u8>, rank: Rank, flow: &Flow, x: Letter) -> Result<()
 }
 
 /// Writes what flows between the letters of the rank.
-#[tactic(auto, using(crate::proofs::RepeatedTexts::texts_start))]
+#[tactic(auto, using(crate::proofs::RepeatedTexts::fields_start))]
 fn print_pairs(out: &mut Vec<u8>, rank: Rank, flow: &Flow) -> Result<(), OutOfMemory>
-    ensures { OnOk result (out.new.items ≡ out.old.items ++ pairs_text rank flow.now) }
+    ensures { OnOk result (out.new.items ≡ out.old.items ++ fields_text (spec.pair_fields rank flow.now)) }
 {
     for x in 0..2 * rank.get() {
         print_row(out, rank, flow, Letter::of_index(x))?;
@@ -58,7 +61,7 @@ fn flow_value(flow: &Flow, letter: Letter) -> u64
 /// Writes the line of a flow from the letter of a generator.
 fn print_flow(out: &mut Vec<u8>, rank: Rank, letter: Letter, flow: &Flow) -> Result<(), OutOfMemory>
     requires { HasSmallValue flow.now letter }
-    ensures { OnOk result (out.new.items ≡ out.old.items ++ flow_text rank letter flow.now) }
+    ensures { OnOk result (out.new.items ≡ out.old.items ++ row_text (spec.flow_row rank letter flow.now)) }
 {
     out.extend_from_slice(b"flow ")?;
     out.push(letter_byte(letter))?;
@@ -70,10 +73,9 @@ fn print_flow(out: &mut Vec<u8>, rank: Rank, letter: Letter, flow: &Flow) -> Res
 }
 
 /// Writes the lines of flows, one for each generator of the rank.
-#[tactic(auto, using(crate::proofs::RepeatedTexts::texts_start))]
 pub fn print_flows(out: &mut Vec<u8>, rank: Rank, flows: &[Flow]) -> Result<(), OutOfMemory>
     requires { HaveLines rank flows.now }
-    ensures { OnOk result (out.new.items ≡ out.old.items ++ flows_text rank flows.now) }
+    ensures { OnOk result (out.new.items ≡ out.old.items ++ rows_text (spec.flow_rows rank 0 flows.now)) }
 {
     for generator in 0..rank.get() {
         let flow = &flows[generator as usize];

@@ -1,5 +1,6 @@
 //! Reading of flows.
 ghost use Rattle.std.specs.Prelude.{◌≡◌, ◌≤◌, ◌<◌, replicate, slice_set};
+ghost use Rattle.wh_words.specs.Limits.{most_rank};
 ghost use Rattle.wh_words.specs.Flows as flows;
 ghost use Rattle.wh_fields.specs.FlowFields as spec;
 ghost use Rattle.wh_fields.specs.FlowFields.{pair_in, table_from, flow_in};
@@ -84,7 +85,7 @@ fn pair_with(from: Letter, to: Letter, amount: u64) -> Option<Pair>
 /// The pair of rank `n` that the bytes of a field tell: two letters, `:` and a number.
 #[tactic(auto, unfolding(crate::specs::FlowFields::pair_in))]
 fn pair_of(n: u8, bytes: &[u8]) -> Option<Pair>
-    requires { n ≤ 26 }
+    requires { n ≤ most_rank }
     ensures { result ≡ pair_in n bytes.now }
 {
     let [x, y, colon, digits @ ..] = bytes else {
@@ -128,7 +129,7 @@ fn pair_from(least: usize, pair: Option<Pair>) -> Option<Pair>
 /// The flow of the pairs of fields. None where a field is no pair of rank `n`, or they don't rise.
 #[tactic(auto, using(crate::proofs::PairTables::table_end))]
 fn flow_of(n: u8, fields: &[Field]) -> Option<Flow>
-    requires { n ≤ 26 }
+    requires { n ≤ most_rank }
     ensures { result ≡ table_from n (replicate 2704 0) 0 fields.now }
 {
     let mut flow = Flow::zero();
@@ -147,7 +148,7 @@ fn flow_of(n: u8, fields: &[Field]) -> Option<Flow>
 
 /// The letter of rank `n` that a field tells.
 fn one_letter(n: u8, bytes: &[u8]) -> Option<Letter>
-    requires { n ≤ 26 }
+    requires { n ≤ most_rank }
     ensures { result ≡ spec.letter_in n bytes.now }
 {
     match bytes {
@@ -160,7 +161,7 @@ fn one_letter(n: u8, bytes: &[u8]) -> Option<Letter>
 /// don't.
 #[tactic(auto, unfolding(crate::specs::FlowFields::flow_in))]
 pub fn read_flow(n: u8, fields: &[Field]) -> Option<FlowLine>
-    requires { n ≤ 26 }
+    requires { n ≤ most_rank }
     ensures { result ≡ flow_in n fields.now }
 {
     let [letter, value, pairs @ ..] = fields else {

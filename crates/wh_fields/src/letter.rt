@@ -1,12 +1,13 @@
 //! Letters: read from a byte, and the byte of each.
 ghost use Rattle.std.specs.Prelude.{◌≡◌, ◌≤◌};
+ghost use Rattle.wh_words.specs.Limits.{most_rank};
 ghost use Rattle.wh_fields.specs.Words as spec;
 
 use wh_words::Letter;
 
 /// The letter of rank `n` that a byte stands for.
 pub fn letter_of(n: u8, byte: u8) -> Option<Letter>
-    requires { n ≤ 26 }
+    requires { n ≤ most_rank }
     ensures { result ≡ spec.letter_of n byte }
 {
     if byte >= b'a' && byte < b'a' + n {

@@ -1,5 +1,6 @@
 //! Reading of moves.
 ghost use Rattle.std.specs.Prelude.{◌≡◌, ◌≤◌, ◌<◌, ◌*◌};
+ghost use Rattle.wh_words.specs.Limits.{most_rank};
 ghost use Rattle.wh_lines.specs.Readings.{Gives, items_at};
 ghost use Rattle.wh_fields.specs.MoveFields as spec;
 ghost use Rattle.wh_fields.specs.MoveFields.{set_from, kind_in, move_with, move_at};
@@ -23,7 +24,7 @@ fn letter_from(least: u8, letter: Option<Letter>) -> Option<Letter>
 /// The mask of the letters of rank `n` that bytes spell. None where a byte is no letter, or they don't rise.
 #[tactic(auto, using(crate::proofs::LetterMasks::set_end))]
 fn mask_of(n: u8, bytes: &[u8]) -> Option<u64>
-    requires { n ≤ 26 }
+    requires { n ≤ most_rank }
     ensures { result ≡ set_from n 0 0 bytes.now }
 {
     let mut mask = 0;

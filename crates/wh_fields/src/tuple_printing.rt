@@ -1,7 +1,8 @@
 //! Printing of tuples.
-ghost use Rattle.std.specs.Prelude.{◌≡◌, ◌++◌, map, OnOk};
-ghost use Rattle.wh_fields.specs.Words.{letter_text};
-ghost use Rattle.wh_fields.specs.TupleFields.{word_field, words_text};
+ghost use Rattle.std.specs.Prelude.{◌≡◌, ◌∷◌, ◌++◌, map, OnOk};
+ghost use Rattle.wh_lines.specs.Rows.{fields_text, row_text};
+ghost use Rattle.wh_fields.specs.Words.{letter_text, word_text};
+ghost use Rattle.wh_fields.specs.TupleFields.{words_row};
 
 use crate::letter::letter_byte;
 use wh_words::{Letter, OutOfMemory, Tuple};
@@ -18,7 +19,7 @@ fn print_letters(out: &mut Vec<u8>, word: &[Letter]) -> Result<(), OutOfMemory>
 
 /// Writes a word as a field.
 fn print_word(out: &mut Vec<u8>, word: &[Letter]) -> Result<(), OutOfMemory>
-    ensures { OnOk result (out.new.items ≡ out.old.items ++ word_field word.now) }
+    ensures { OnOk result (out.new.items ≡ out.old.items ++ (32 ∷ word_text word.now)) }
 {
     out.push(b' ')?;
     if word.is_empty() {
@@ -29,13 +30,22 @@ fn print_word(out: &mut Vec<u8>, word: &[Letter]) -> Result<(), OutOfMemory>
     }
 }
 
-/// Writes the words of a tuple as fields, and the end of the line.
-pub fn print_words(out: &mut Vec<u8>, tuple: &Tuple) -> Result<(), OutOfMemory>
-    ensures { OnOk result (out.new.items ≡ out.old.items ++ words_text tuple.now.plain.words) }
+/// Writes the words of a tuple as fields.
+fn print_word_fields(out: &mut Vec<u8>, tuple: &Tuple) -> Result<(), OutOfMemory>
+    ensures { OnOk result (out.new.items ≡ out.old.items ++ fields_text (map word_text tuple.now.plain.words)) }
 {
     for place in 0..tuple.count() {
         print_word(out, tuple.word(place))?;
     }
+    Ok(())
+}
+
+/// Writes the line of a keyword and the words of a tuple.
+pub fn print_words(out: &mut Vec<u8>, keyword: &[u8], tuple: &Tuple) -> Result<(), OutOfMemory>
+    ensures { OnOk result (out.new.items ≡ out.old.items ++ row_text (words_row keyword.now tuple.now.plain.words)) }
+{
+    out.extend_from_slice(keyword)?;
+    print_word_fields(out, tuple)?;
     out.push(b'\n')?;
     Ok(())
 }

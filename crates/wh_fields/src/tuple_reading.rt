@@ -1,6 +1,7 @@
 //! What a `tuple` line tells.
 ghost use Rattle.std.specs.Prelude.{◌≡◌, ◌≤◌, ◌<◌, ◌+◌, ◌^◌, length, map, IfOk};
 ghost use Rattle.std.specs.List.{All, sum_by};
+ghost use Rattle.wh_words.specs.Limits.{most_rank, most_words};
 ghost use Rattle.wh_words.specs.Words.{free_reduction, IsOfRank};
 ghost use Rattle.wh_lines.specs.Scans.{bytes_within};
 ghost use Rattle.wh_lines.specs.Readings.{Gives};
@@ -12,7 +13,7 @@ ghost use Rattle.wh_fields.specs.TupleFields.{words_at, tuple_at};
 use crate::letter::letter_of;
 use std::alloc::Global;
 use wh_lines::{Field, ReadError};
-use wh_words::{Letter, List, OutOfMemory, Rank, Tuple, Word};
+use wh_words::{Letter, List, MOST_LETTERS, MOST_WORDS, OutOfMemory, Rank, Tuple, Word};
 
 /// The letters of a field from `column` on. Where a byte is no letter of the rank, BadLetter names the leftmost.
 #[tactic(auto, using(crate::proofs::WordReadings::letters_end))]
@@ -23,7 +24,7 @@ fn letters(
     column: usize,
     bytes: &[u8],
 ) -> Result<List<Letter>, ReadError>
-    requires rank { n ≤ 26 }
+    requires rank { n ≤ most_rank }
     requires fits { column + length bytes.now < 2 ^ 64 }
     ensures { Gives (λ w. w) result (letters_at n line column bytes.now) }
 {
@@ -46,7 +47,7 @@ fn letters(
 
 /// The word of a field, as it is written.
 fn word(alloc: Global, n: u8, line: u64, field: &Field) -> Result<List<Letter>, ReadError>
-    requires { n ≤ 26 }
+    requires { n ≤ most_rank }
     ensures { Gives (λ w. w) result (spelling.word_at n line field.now) }
 {
     if field.is(b"1") {
@@ -58,7 +59,7 @@ fn word(alloc: Global, n: u8, line: u64, field: &Field) -> Result<List<Letter>, 
 /// The words of the fields, as they are written.
 #[tactic(auto, using(wh_lines::proofs::ItemReadings::items_more, wh_lines::proofs::ItemReadings::items_fail, wh_lines::proofs::ItemReadings::items_end))]
 fn words(alloc: Global, n: u8, line: u64, fields: &[Field]) -> Result<Vec<List<Letter>>, ReadError>
-    requires { n ≤ 26 }
+    requires { n ≤ most_rank }
     ensures { Gives (λ v. v.items) result (words_at n line fields.now) }
 {
     let mut out = Vec::new(alloc);
@@ -100,12 +101,12 @@ fn short_tuple(
     written: &[List<Letter>],
 ) -> Result<Tuple, ReadError>
     requires total { sum_by length written.now < 2 ^ 64 }
-    requires few { length written.now ≤ 64 }
+    requires few { length written.now ≤ most_words }
     requires of_rank { All (IsOfRank rank) written.now }
     ensures { Gives (λ t. t.plain) result (spec.short_tuple rank line written.now) }
 {
     let length = total_length(written);
-    if length > 4096 {
+    if length > MOST_LETTERS as usize {
         return Err(ReadError::LongTuple {
             line,
             length: length as u64,
@@ -126,7 +127,7 @@ pub fn read_tuple(
     requires { sum_by bytes_within fields.now < 2 ^ 64 }
     ensures { Gives (λ t. t.plain) result (tuple_at rank line fields.now) }
 {
-    if fields.len() > 64 {
+    if fields.len() > MOST_WORDS {
         return Err(ReadError::TooManyWords {
             line,
             count: fields.len() as u64,

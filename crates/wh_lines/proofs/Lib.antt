@@ -16,3 +16,4 @@ pub mod RowReadings
 pub mod RestRows
 pub mod BadBytes
 pub mod TakenLines
+pub mod ExactReadings

@@ -9,11 +9,12 @@ use Rattle.wh_lines.specs.Lines.{Field, bad_at, is_comment, fields}
 use Rattle.wh_lines.specs.KeptLines.{Kept, Rest, rest, line_fields, kept_or, unless_bad}
 use Rattle.wh_lines.specs.KeptLines.Rest.{line, bad_byte, end}
 use Rattle.wh_lines.specs.LineReadings.{Reading}
-use Rattle.wh_lines.specs.Laws.{IsClean, is_skipped, kept_lines, field_texts, numbers_from}
+use Rattle.wh_lines.specs.Laws.{IsClean, is_skipped, kept_lines, kept_numbers, field_texts, numbers_from, texts_of}
 use Rattle.wh_lines.proofs.SkippedLines.{bad_clean, clean_bad, is_none, skipped_is}
 use Rattle.wh_lines.proofs.FieldLaws.{AreSome, fields_some, rest_some}
 use Rattle.wh_lines.proofs.NextLines.{behind}
-use Rattle.wh_lines.proofs.PrintedRows.{Row, row_text, IsShownRow, row_fields, row_clean, row_kept}
+use Rattle.wh_lines.specs.Rows.{Row, row_bytes}
+use Rattle.wh_lines.proofs.PrintedRows.{IsShownRow, row_fields, row_clean, row_kept}
 use Rattle.wh_lines.proofs.RowReadings.{Tells, Passes}
 
 -- All that is left tells these rows, and no byte of it is bad.
@@ -23,10 +24,6 @@ Holds (line k later) (r ∷ rows) = Tells r k × Holds later rows
 Holds (bad_byte l c) rows = ⊥
 Holds (end l) [] = Unit {0}
 Holds (end l) (r ∷ rows) = ⊥
-
--- The keyword of a row and its fields.
-abbrev pub texts_of : Row → List (List ℕ)
-texts_of r = r.keyword ∷ r.fields
 
 pub kept_row : (k : Kept) → AreSome k.fields → Tells (record { keyword = k.keyword; fields = map (λ f. f.bytes) k.fields }) k
 kept_row k h = record { keyword = refl; some = h; same = refl }
@@ -151,21 +148,21 @@ rest_all_some l (bytes ∷ ls) =
 
 -- ---- printed rows
 -- the line of a row that is printed
-kept_of_row : (l : ℕ) (r : Row) (ls : List (List ℕ)) → IsShownRow r → (k : Kept) × (rest l (row_text r ∷ ls) ≡ line k (rest (l + 1) ls)) × (k.number ≡ l) × Tells r k
-kept_of_row l r ls h = elim (line_case l (row_text r)) [
+kept_of_row : (l : ℕ) (r : Row) (ls : List (List ℕ)) → IsShownRow r → (k : Kept) × (rest l (row_bytes r ∷ ls) ≡ line k (rest (l + 1) ls)) × (k.number ≡ l) × Tells r k
+kept_of_row l r ls h = elim (line_case l (row_bytes r)) [
   | skipped s same ↦ absurd (false≢true (sym (row_kept r h) ∙ s))
   | kept s k n t same ↦ (let e : k.keyword ∷ map (λ f. f.bytes) k.fields ≡ r.keyword ∷ r.fields = t.texts ∙ row_fields r h in
       let keyword : k.keyword ≡ r.keyword = (cc) in
       let fields : map (λ f. f.bytes) k.fields ≡ r.fields = (cc) in
-      (k, clean_line l (row_text r) ls (row_clean r h) ∙ same (rest (l + 1) ls), n, record { keyword = keyword; some = t.some; same = fields }))
+      (k, clean_line l (row_bytes r) ls (row_clean r h) ∙ same (rest (l + 1) ls), n, record { keyword = keyword; some = t.some; same = fields }))
 ]
 
 pub rows_pass : (l : ℕ) (taken : List ℕ) (rows : List Row) → All IsShownRow rows →
-    (m : ℕ) × Passes rows (record { taken = taken; rest = rest l (map row_text rows) }) (record { taken = taken ++ numbers_from l (length rows); rest = end m })
+    (m : ℕ) × Passes rows (record { taken = taken; rest = rest l (map row_bytes rows) }) (record { taken = taken ++ numbers_from l (length rows); rest = end m })
 unfolding rest
 rows_pass l taken [] a = (l, ap (λ ns. record { taken = ns; rest = end l }) (sym (append-nil taken)))
 rows_pass l taken (r ∷ rows) a =
-    let ls = map row_text rows in
+    let ls = map row_bytes rows in
     let k = kept_of_row l r ls (All-head IsShownRow r rows a) in
     let later = rows_pass (l + 1) (taken ++ k.0.number ∷ []) rows (All-tail IsShownRow r rows a) in
     let ns = numbers_from (l + 1) (length rows) in
@@ -173,3 +170,47 @@ rows_pass l taken (r ∷ rows) a =
       later.0,
       (k.0, rest (l + 1) ls, k.1, k.3, subst (λ (xs : List ℕ). Passes rows (record { taken = taken ++ k.0.number ∷ []; rest = rest (l + 1) ls }) (record { taken = xs; rest = end later.0 })) numbers later.1),
     )
+
+-- ---- the numbers of lines
+-- all that is left is passed, and its numbers are taken
+pub holds_passes : (l : ℕ) (taken : List ℕ) (ls : List (List ℕ)) (rows : List Row) → Holds (rest l ls) rows →
+    (m : ℕ) × Passes rows (record { taken = taken; rest = rest l ls }) (record { taken = taken ++ kept_numbers l ls; rest = end m })
+unfolding rest
+holds_passes l taken [] [] h = (l, ap (λ ns. record { taken = ns; rest = end l }) (sym (append-nil taken)))
+holds_passes l taken [] (r ∷ rows) h = absurd h
+holds_passes l taken (bytes ∷ ls) rows h =
+    let p = holds_line l bytes ls rows h in
+    let later = rest (l + 1) ls in
+    elim (line_case l bytes) [
+      | skipped s same ↦ (let q = holds_passes (l + 1) taken ls rows (subst (λ (r : Rest). Holds r rows) (same later) p.1) in (
+        q.0,
+        subst (λ (r : Rest). Passes rows (record { taken = taken; rest = r }) (record { taken = taken ++ kept_numbers l (bytes ∷ ls); rest = end q.0 })) (sym (clean_line l bytes ls p.0 ∙ same later))
+            (subst (λ (ns : List ℕ). Passes rows (record { taken = taken; rest = later }) (record { taken = taken ++ ns; rest = end q.0 })) (sym (cond-true (is_skipped bytes) (kept_numbers (l + 1) ls) (l ∷ kept_numbers (l + 1) ls) s)) q.1),
+      ))
+      | kept s k n t same ↦ kept_passes l taken bytes ls rows k s n (clean_line l bytes ls p.0 ∙ same later) (subst (λ (r : Rest). Holds r rows) (same later) p.1) (λ ns more g. holds_passes (l + 1) ns ls more g)
+    ]
+  where
+    kept_passes : (l : ℕ) (taken bytes : List ℕ) (ls : List (List ℕ)) (rows : List Row) (k : Kept) → is_skipped bytes ≡ false → k.number ≡ l → rest l (bytes ∷ ls) ≡ line k (rest (l + 1) ls) → Holds (line k (rest (l + 1) ls)) rows →
+        ((ns : List ℕ) (more : List Row) → Holds (rest (l + 1) ls) more → (m : ℕ) × Passes more (record { taken = ns; rest = rest (l + 1) ls }) (record { taken = ns ++ kept_numbers (l + 1) ls; rest = end m })) →
+        (m : ℕ) × Passes rows (record { taken = taken; rest = rest l (bytes ∷ ls) }) (record { taken = taken ++ kept_numbers l (bytes ∷ ls); rest = end m })
+    kept_passes l taken bytes ls [] k s n is h rec = absurd h
+    kept_passes l taken bytes ls (r ∷ rows) k s n is h rec =
+        let q = rec (taken ++ k.number ∷ []) rows h.1 in
+        let ns = kept_numbers (l + 1) ls in
+        let numbers : (taken ++ k.number ∷ []) ++ ns ≡ taken ++ kept_numbers l (bytes ∷ ls) =
+        append_assoc taken (k.number ∷ []) ns ∙ ap (λ x. taken ++ x ∷ ns) n ∙ ap (λ v. taken ++ v) (sym (cond-false (is_skipped bytes) ns (l ∷ ns) s)) in
+        (q.0, (k, rest (l + 1) ls, is, h.0, subst (λ (xs : List ℕ). Passes rows (record { taken = taken ++ k.number ∷ []; rest = rest (l + 1) ls }) (record { taken = xs; rest = end q.0 })) numbers q.1))
+
+-- what is passed up to the end is all that is left
+pub passes_hold : (rows : List Row) (p q : Reading) (m : ℕ) → Passes rows p q → q.rest ≡ end m → Holds p.rest rows
+passes_hold [] p q m h e = subst (λ (r : Rest). Holds r []) (sym (ap (λ (x : Reading). x.rest) h ∙ e)) tt
+passes_hold (r ∷ rows) p q m h e = subst (λ (x : Rest). Holds x (r ∷ rows)) (sym h.2) (h.3, passes_hold rows (behind p h.0 h.1) q m h.4 e)
+
+-- there is one place behind some rows
+pub passes_one : (rows : List Row) (p q r : Reading) → Passes rows p q → Passes rows p r → q ≡ r
+passes_one [] p q r h g = sym h ∙ g
+passes_one (x ∷ rows) p q r h g =
+    let same : line h.0 h.1 ≡ line g.0 g.1 = sym h.2 ∙ g.2 in
+    let kept : h.0 ≡ g.0 = (cc) in
+    let later : h.1 ≡ g.1 = (cc) in
+    passes_one rows (behind p h.0 h.1) q r h.4 (subst (λ (s : Reading). Passes rows s r) (ap (λ k. behind p k g.1) (sym kept) ∙ ap (behind p h.0) (sym later)) g.4)

@@ -10,7 +10,8 @@ use Rattle.wh_lines.specs.KeptLines.Rest.{line, bad_byte, end}
 use Rattle.wh_lines.specs.LineReadings.{Reading, line_after, times}
 use Rattle.wh_lines.proofs.FieldLaws.{AreSome}
 use Rattle.wh_lines.proofs.NextLines.{behind, line_there}
-use Rattle.wh_lines.proofs.PrintedRows.{Row, IsShown, IsShownRow}
+use Rattle.wh_lines.specs.Rows.{Row}
+use Rattle.wh_lines.proofs.PrintedRows.{IsShown, IsShownRow}
 
 -- ---- lines that tell rows
 -- The line has the keyword and the fields of the row.

@@ -3,6 +3,7 @@ use Rattle.std.specs.Prelude.{◌≡◌, ◌≢◌, ◌==◌, ◌||◌, Bool, �
 use Rattle.std.specs.List.{All, list_all}
 use Rattle.wh_lines.specs.Lines.{lines, fields, is_allowed, is_comment}
 use Rattle.wh_lines.specs.Numbers.{number}
+use Rattle.wh_lines.specs.Rows.{Row}
 
 -- ---- fields
 -- A number is read exactly from its decimal digits.
@@ -62,3 +63,19 @@ IsClean line = All (λ b. is_allowed b ≡ true) line
 abbrev pub numbers_from : ℕ → ℕ → List ℕ
 numbers_from l zero = []
 numbers_from l (suc k) = l ∷ numbers_from (l + 1) k
+
+-- The numbers of the lines that aren't skipped, where the first line has number l.
+abbrev pub kept_numbers : ℕ → List (List ℕ) → List ℕ
+kept_numbers l [] = []
+kept_numbers l (line ∷ ls) = cond (is_skipped line) (kept_numbers (l + 1) ls) (l ∷ kept_numbers (l + 1) ls)
+
+-- The keyword and the fields of a row.
+abbrev pub texts_of : Row → List (List ℕ)
+texts_of r = r.keyword ∷ r.fields
+
+-- A row for each item, which tells it.
+abbrev pub EachRow : {A : Type 0} → (Row → A → Type 0) → List Row → List A → Type 0
+EachRow tells [] [] = Unit {0}
+EachRow tells [] (x ∷ xs) = ⊥
+EachRow tells (r ∷ rows) [] = ⊥
+EachRow tells (r ∷ rows) (x ∷ xs) = tells r x × EachRow tells rows xs

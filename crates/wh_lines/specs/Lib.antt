@@ -2,6 +2,7 @@
 pub mod Lines
 pub mod Readings
 pub mod Numbers
+pub mod Rows
 pub mod KeptLines
 pub mod LineReadings
 pub mod Laws

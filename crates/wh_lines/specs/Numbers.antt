@@ -1,5 +1,5 @@
 -- Canonical numbers: decimal digits without sign and without a leading zero, below 2 ^ 64.
-use Rattle.std.specs.Prelude.{ℕ, ◌+◌, ◌-◌, ◌*◌, ◌^◌, ◌==◌, leb, ltb, ◌&&◌, Bool, cond, List, [], ◌∷◌, length, Option, Some, None, codes, decimal, ◌++◌}
+use Rattle.std.specs.Prelude.{ℕ, ◌+◌, ◌-◌, ◌*◌, ◌^◌, ◌==◌, leb, ltb, ◌&&◌, Bool, cond, List, [], ◌∷◌, length, Option, Some, None}
 use Rattle.std.specs.Option.{option_and_then}
 
 -- Whether a byte is a decimal digit.
@@ -19,7 +19,3 @@ digits_from n (b ∷ bs) = option_and_then (λ m. digits_from m bs) (next_digit 
 abbrev pub number : List ℕ → Option ℕ
 number [] = None
 number (b ∷ bs) = cond (b == 48) (cond (length bs == 0) (Some 0) None) (digits_from 0 (b ∷ bs))
-
--- What follows a keyword before a number.
-abbrev pub number_text : ℕ → List ℕ
-number_text n = codes " " ++ decimal n ++ codes "\n"

@@ -11,6 +11,6 @@ mod reader;
 
 pub use field::Field;
 pub use kept_line::Kept;
-pub use number::{canonical_number, print_number, print_number_line};
+pub use number::{canonical_number, print_number, print_number_row};
 pub use read_error::ReadError;
 pub use reader::{Next, Reader};

@@ -1,7 +1,7 @@
 //! Canonical numbers: read, and printed.
 ghost use Rattle.std.specs.Prelude.{◌≡◌, ◌++◌, OnOk, decimal};
 ghost use Rattle.wh_lines.specs.Numbers as spec;
-ghost use Rattle.wh_lines.specs.Numbers.{number_text};
+ghost use Rattle.wh_lines.specs.Rows.{row_text, number_row};
 
 use itoa::Buffer;
 use wh_words::OutOfMemory;
@@ -62,10 +62,11 @@ pub fn print_number(out: &mut Vec<u8>, n: u64) -> Result<(), OutOfMemory>
     Ok(())
 }
 
-/// Writes a number as a field, and the end of the line.
-pub fn print_number_line(out: &mut Vec<u8>, n: u64) -> Result<(), OutOfMemory>
-    ensures { OnOk result (out.new.items ≡ out.old.items ++ number_text n) }
+/// Writes the line of a keyword and a number.
+pub fn print_number_row(out: &mut Vec<u8>, keyword: &[u8], n: u64) -> Result<(), OutOfMemory>
+    ensures { OnOk result (out.new.items ≡ out.old.items ++ row_text (number_row keyword.now n)) }
 {
+    out.extend_from_slice(keyword)?;
     out.push(b' ')?;
     print_number(out, n)?;
     out.push(b'\n')?;

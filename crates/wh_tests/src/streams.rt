@@ -28,8 +28,9 @@ fn a_read_fault_writes_nothing(rt: HostRuntime) -> Result<(), Fail> {
 #[test]
 fn a_write_fault_leaves_a_front_of_the_text(rt: HostRuntime) -> Result<(), Fail> {
     let alloc = rt.alloc();
+    let fails = Vec::from_slice(alloc, &[2])?;
     let mut source = source(alloc, PROBLEM)?;
-    let mut sink = MemSink::new(alloc, 16, Vec::from_slice(alloc, &[2])?);
+    let mut sink = MemSink::new(alloc, 16, fails);
     assert_eq!(rt;
         run(alloc, &["reduce"], &mut source, &mut sink),
         Status::WriteFault

@@ -20,7 +20,8 @@ use Rattle.wh_fields.specs.TupleFields.{words_at, short_tuple, tuple_at}
 use Rattle.wh_text.specs.declared.command.Command.{Command}
 use Rattle.wh_text.specs.declared.command.Command.TheVariants as commands
 use Rattle.wh_text.specs.RankLines.{greatest_rank, rank_at, rank_number, allowed_rank, no_rank, rank_after}
-use Rattle.wh_text.specs.Problems.{most_bytes, decide, tuple_line, tuples_of, one_tuple, two_tuples, decide_both, problem_with, problem_after, problem}
+use Rattle.wh_text.specs.Problems.{decide, tuple_line, tuples_of, one_tuple, two_tuples, decide_both, problem_with, problem_after, problem}
+use Rattle.wh_text.specs.Limits.{most_problem_bytes}
 use Rattle.wh_text.specs.Laws.{NamesTheFirstBadByte, IsFirstBadByte}
 
 -- ---- what other readers refuse is no byte
@@ -168,9 +169,9 @@ lines_bad command p l c e =
 
 pub first_bad_byte : NamesTheFirstBadByte
 unfolding problem
-first_bad_byte command bytes l column e = by (ltb most_bytes (length bytes)) e
+first_bad_byte command bytes l column e = by (ltb most_problem_bytes (length bytes)) e
   where
-    by : (t : Bool) → cond t (Err (errors.InputTooLong most_bytes)) (problem_after command (start bytes)) ≡ Err (errors.BadByte l column) → IsFirstBadByte bytes l column
+    by : (t : Bool) → cond t (Err (errors.InputTooLong most_problem_bytes)) (problem_after command (start bytes)) ≡ Err (errors.BadByte l column) → IsFirstBadByte bytes l column
     by true e = absurd (cc)
     by false e =
         let r = first_bad 1 l column (lines bytes) (lines_bad command (start bytes) l column e) in

@@ -22,7 +22,8 @@ use Rattle.wh_lines.specs.LineReadings.{Reading, start, line_after, end_after, t
 use Rattle.wh_text.specs.AnswerData.{CertificateData}
 use Rattle.wh_text.specs.AnswerData.VerdictData.{yes, no_length, no_level}
 use Rattle.wh_text.specs.AnswerData.AnswerData.{reduce, decide}
-use Rattle.wh_text.specs.Certificates.{most_certificate_bytes, tuple_after, like_after, moves_after, flow_after, SideRead, side_with, side_after, number_in, level_after, VerdictWord, VerdictRead, yes_after, sides_after, no_length_after, no_level_after, verdict_in, verdict_with, verdict_after, AnswerRead, reduced_after, decided_after, answer_with, heading_in, heading_after, in_answer, with_end, done_after, answer_after, certificate}
+use Rattle.wh_text.specs.Certificates.{tuple_after, like_after, moves_after, flow_after, SideRead, side_with, side_after, number_in, level_after, VerdictWord, VerdictRead, yes_after, sides_after, no_length_after, no_level_after, verdict_in, verdict_with, verdict_after, AnswerRead, reduced_after, decided_after, answer_with, heading_in, heading_after, in_answer, with_end, done_after, answer_after, certificate}
+use Rattle.wh_text.specs.Limits.{most_answer_bytes}
 use Rattle.wh_text.specs.Certificates.VerdictWord.{a_yes, a_no_length, a_no_level}
 use Rattle.wh_text.specs.Numberings.{IsSideOfRank, IsVerdictOfRank, IsAnswerOfOneRank, side_lines, verdict_lines, answer_lines, verdict_flows, flow_lines, IsNumbered}
 use Rattle.wh_lines.proofs.Equations.{bind_ok, ok_is, ok_same, unless_ok, if_ok, refused_ok}
@@ -244,6 +245,6 @@ answer_numbered p read none e =
 pub certificate_numbered : (bytes : List ℕ) (c : CertificateData) → certificate bytes ≡ Ok c → IsNumbered c
 unfolding certificate
 certificate_numbered bytes c e =
-    let a = unless_ok (ltb most_certificate_bytes (length bytes)) (errors.InputTooLong most_certificate_bytes) (answer_after (start bytes) >>= λ read. Ok (certificate_of_read read)) c e in
+    let a = unless_ok (ltb most_answer_bytes (length bytes)) (errors.InputTooLong most_answer_bytes) (answer_after (start bytes) >>= λ read. Ok (certificate_of_read read)) c e in
     let b = bind_ok (answer_after (start bytes)) (λ read. Ok (certificate_of_read read)) c a.1 in
     ok_same IsNumbered (certificate_of_read b.0) c b.2 (answer_numbered (start bytes) b.0 refl b.1)

@@ -11,21 +11,22 @@ use Rattle.wh_lines.specs.Readings.{◌>>=◌, refused_as}
 use Rattle.wh_lines.specs.KeptLines.{Kept, Rest, rest}
 use Rattle.wh_lines.specs.KeptLines.Rest.{line, bad_byte, end}
 use Rattle.wh_lines.specs.LineReadings.{Reading, start, line_after}
-use Rattle.wh_lines.specs.Laws.{IsClean, field_texts, kept_lines}
+use Rattle.wh_lines.specs.Laws.{IsClean, field_texts, kept_lines, texts_of}
 use Rattle.wh_lines.proofs.Equations.{bind_ok, ok_is, unless_ok, if_ok, not_more, is_not_more, are_is, are_back, refused_ok}
 use Rattle.wh_lines.proofs.Scanning.{eq_true}
 use Rattle.wh_lines.proofs.FieldLaws.{AreSome}
 use Rattle.wh_lines.proofs.NextLines.{behind, line_told, line_there}
-use Rattle.wh_lines.proofs.PrintedRows.{Row, number_row}
+use Rattle.wh_lines.specs.Rows.{Row, number_row}
 use Rattle.wh_lines.proofs.RowReadings.{Tells, columns, columns_are}
-use Rattle.wh_lines.proofs.RestRows.{Holds, AllSome, HaveRows, texts_of, kept_row, holds_is, holds_back, rest_all_some}
+use Rattle.wh_lines.proofs.RestRows.{Holds, AllSome, HaveRows, kept_row, holds_is, holds_back, rest_all_some}
 use Rattle.wh_fields.specs.Words.{word_text}
 use Rattle.wh_fields.specs.TupleFields.{tuple_at}
 use Rattle.wh_fields.proofs.TupleLaws.{Spell, tuple_is, tuple_back}
 use Rattle.wh_text.specs.declared.command.Command.{Command}
 use Rattle.wh_text.specs.declared.command.Command.TheVariants as commands
 use Rattle.wh_text.specs.RankLines.{greatest_rank, rank_at, no_rank, rank_after}
-use Rattle.wh_text.specs.Problems.{ProblemData, reduce, decide, most_bytes, tuple_line, tuples_of, one_tuple, two_tuples, decide_both, problem_with, problem_after, problem}
+use Rattle.wh_text.specs.Problems.{ProblemData, reduce, decide, tuple_line, tuples_of, one_tuple, two_tuples, decide_both, problem_with, problem_after, problem}
+use Rattle.wh_text.specs.Limits.{most_problem_bytes}
 use Rattle.wh_text.specs.Laws.{IsRankLine, IsTupleLine, IsReduceText, IsDecideText, ReadsReduceTexts, ReadsDecideTexts}
 use Rattle.wh_text.proofs.RankLaws.{rank_within, rank_is, rank_back}
 
@@ -84,11 +85,11 @@ record TellProblem (command : Command) (bytes : List ℕ) (n : ℕ) (ts : List T
   tuples : TupleRows n rows ts
 
 text_is : (command : Command) (bytes : List ℕ) (p : ProblemData) → problem command bytes ≡ Ok p →
-    (length bytes ≤ most_bytes) × (n : ℕ) × (ts : List TupleData) × TellProblem command bytes n ts × (problem_with command ts ≡ Ok p)
+    (length bytes ≤ most_problem_bytes) × (n : ℕ) × (ts : List TupleData) × TellProblem command bytes n ts × (problem_with command ts ≡ Ok p)
 unfolding problem problem_after rank_after
 text_is command bytes p e =
     let at : Reading = start bytes in
-    let size = unless_ok (ltb most_bytes (length bytes)) (errors.InputTooLong most_bytes) (problem_after command at) p e in
+    let size = unless_ok (ltb most_problem_bytes (length bytes)) (errors.InputTooLong most_problem_bytes) (problem_after command at) p e in
     let a = bind_ok (rank_after command at) (λ n. tuples_of n.0 n.1.rest >>= λ ts. problem_with command ts) p size.1 in
     let b = bind_ok (tuples_of a.0.0 a.0.1.rest) (λ ts. problem_with command ts) p a.2 in
     let next : Kept × Reading → Result (ℕ × Reading) ReadError = λ k. rank_at command k.0.number k.0.fields >>= λ n. Ok (n, k.1) in
@@ -104,7 +105,7 @@ text_is command bytes p e =
     let first : Tells (number_row (codes "rank") a.0.0) c.0.0 = record { keyword = line_is.2; some = some.0; same = rank.0 ∙ ap (λ m. decimal m ∷ []) n } in
     let holds : Holds (rest 1 (lines bytes)) (number_row (codes "rank") a.0.0 ∷ tuples.0) =
     subst (λ (r : Rest). Holds r (number_row (codes "rank") a.0.0 ∷ tuples.0)) (sym (line_is.0 ∙ ap (λ r. line c.0.0 r) later)) (first, tuples.1) in (
-      not_more most_bytes (length bytes) size.0,
+      not_more most_problem_bytes (length bytes) size.0,
       a.0.0,
       b.0,
       record { rows = tuples.0; have = holds_is 1 (lines bytes) (number_row (codes "rank") a.0.0 ∷ tuples.0) holds; least = omega (arith, n, rank.1); greatest = omega (arith, n, rank.2); tuples = tuples.2 },
@@ -116,7 +117,7 @@ rest_after (line k later) row rows h = (k, later, refl, h.0, h.1)
 rest_after (bad_byte l c) row rows h = absurd h
 rest_after (end l) row rows h = absurd h
 
-text_back : (command : Command) (bytes : List ℕ) (p : ProblemData) (n : ℕ) (ts : List TupleData) → length bytes ≤ most_bytes → TellProblem command bytes n ts → problem_with command ts ≡ Ok p → problem command bytes ≡ Ok p
+text_back : (command : Command) (bytes : List ℕ) (p : ProblemData) (n : ℕ) (ts : List TupleData) → length bytes ≤ most_problem_bytes → TellProblem command bytes n ts → problem_with command ts ≡ Ok p → problem command bytes ≡ Ok p
 unfolding problem problem_after rank_after
 text_back command bytes p n ts h x e =
     let at : Reading = start bytes in
@@ -126,7 +127,7 @@ text_back command bytes p n ts h x e =
     let next : Kept × Reading → Result (ℕ × Reading) ReadError = λ k. rank_at command k.0.number k.0.fields >>= λ n. Ok (n, k.1) in
     let placed : ℕ → Result (ℕ × Reading) ReadError = λ n. Ok (n, behind at a.0 a.1) in
     let later : ℕ × Reading → Result ProblemData ReadError = λ n. tuples_of n.0 n.1.rest >>= λ ts. problem_with command ts in
-    cond-false (ltb most_bytes (length bytes)) (Err (errors.InputTooLong most_bytes)) (problem_after command at) (is_not_more most_bytes (length bytes) h)
+    cond-false (ltb most_problem_bytes (length bytes)) (Err (errors.InputTooLong most_problem_bytes)) (problem_after command at) (is_not_more most_problem_bytes (length bytes) h)
     ∙ ap (λ r. refused_as no_rank r >>= next >>= later) (line_there (codes "rank") at a.0 a.1 a.2 a.3.keyword)
     ∙ ap (λ r. r >>= placed >>= later) (rank_back command a.0.number n a.0.fields a.3.same x.least x.greatest)
     ∙ ap (λ r. r >>= λ ts. problem_with command ts) (tuples_back n a.1 x.rows ts few a.4 x.tuples)
@@ -191,7 +192,7 @@ with_one ts t e =
 one_row : (n : ℕ) (rows : List Row) (t : TupleData) → TupleRows n rows (t ∷ []) → (r : Row) × (rows ≡ r ∷ []) × IsTupleRow n r t
 one_row n rows t (more r _ is none) = (r, refl, is)
 
-reduce_is : (bytes : List ℕ) (t : TupleData) → problem commands.Reduce bytes ≡ Ok (reduce t) → (length bytes ≤ most_bytes) × IsReduceText bytes t
+reduce_is : (bytes : List ℕ) (t : TupleData) → problem commands.Reduce bytes ≡ Ok (reduce t) → (length bytes ≤ most_problem_bytes) × IsReduceText bytes t
 reduce_is bytes t e =
     let x = text_is commands.Reduce bytes (reduce t) e in
     let n = x.1 in
@@ -212,7 +213,7 @@ reduce_is bytes t e =
       },
     )
 
-reduce_back : (bytes : List ℕ) (t : TupleData) → length bytes ≤ most_bytes → IsReduceText bytes t → problem commands.Reduce bytes ≡ Ok (reduce t)
+reduce_back : (bytes : List ℕ) (t : TupleData) → length bytes ≤ most_problem_bytes → IsReduceText bytes t → problem commands.Reduce bytes ≡ Ok (reduce t)
 reduce_back bytes t h x =
     let row = tuple_row t.rank x.tuple_line t x.tuple in
     text_back commands.Reduce bytes (reduce t) t.rank (t ∷ []) h
@@ -256,7 +257,7 @@ with_two_back s t e = cond-true (length s.words == length t.words) (Ok (decide s
 two_rows : (n : ℕ) (rows : List Row) (s t : TupleData) → TupleRows n rows (s ∷ t ∷ []) → (r : Row) × (q : Row) × (rows ≡ r ∷ q ∷ []) × IsTupleRow n r s × IsTupleRow n q t
 two_rows n rows s t (more r _ a (more q _ b none)) = (r, q, refl, a, b)
 
-decide_is : (bytes : List ℕ) (s t : TupleData) → problem commands.Decide bytes ≡ Ok (decide s t) → (length bytes ≤ most_bytes) × IsDecideText bytes s t
+decide_is : (bytes : List ℕ) (s t : TupleData) → problem commands.Decide bytes ≡ Ok (decide s t) → (length bytes ≤ most_problem_bytes) × IsDecideText bytes s t
 decide_is bytes s t e =
     let x = text_is commands.Decide bytes (decide s t) e in
     let n = x.1 in
@@ -282,7 +283,7 @@ decide_is bytes s t e =
       },
     )
 
-decide_back : (bytes : List ℕ) (s t : TupleData) → length bytes ≤ most_bytes → IsDecideText bytes s t → problem commands.Decide bytes ≡ Ok (decide s t)
+decide_back : (bytes : List ℕ) (s t : TupleData) → length bytes ≤ most_problem_bytes → IsDecideText bytes s t → problem commands.Decide bytes ≡ Ok (decide s t)
 decide_back bytes s t h x =
     let n = s.rank in
     let first = tuple_row n x.first_line s x.first in

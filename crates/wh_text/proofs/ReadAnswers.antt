@@ -18,17 +18,17 @@ use Rattle.wh_text.specs.RankLines.{greatest_rank, rank_at, no_rank, rank_after}
 use Rattle.wh_text.specs.AnswerData.{SideData, VerdictData, AnswerData}
 use Rattle.wh_text.specs.AnswerData.AnswerData.{reduce, decide}
 use Rattle.wh_text.specs.Certificates.{tuple_after, like_after, side_after, verdict_after, AnswerRead, reduced_after, decided_after, answer_with, command_at, heading_in, heading_after, in_answer, with_end, done_after, answer_after}
-use Rattle.wh_fields.specs.TupleFields.{IsTupleOf}
+use Rattle.wh_fields.specs.TupleFields.{IsTupleOf, words_row}
 use Rattle.wh_text.specs.ReadingBack.{IsSideOf, IsVerdictOf, IsCertificate, verdict_heads, heads_of}
 use Rattle.wh_fields.specs.FlowFields.{heads_from}
 use Rattle.wh_lines.proofs.Equations.{split_fields, no_fields}
 use Rattle.wh_text.proofs.RankLaws.{rank_within, rank_back}
-use Rattle.wh_lines.proofs.PrintedRows.{Row, IsShown, IsShownRow, number_row}
+use Rattle.wh_lines.specs.Rows.{Row, number_row}
+use Rattle.wh_lines.proofs.PrintedRows.{IsShown, IsShownRow}
 use Rattle.wh_lines.proofs.NextLines.{behind, line_there}
 use Rattle.wh_lines.proofs.RowReadings.{ReadsRows, Passes, passes_split, reads_none, row_then, reads_then, reads_as}
 use Rattle.wh_fields.proofs.ShownFields.{written_shown, decimal_shown}
-use Rattle.wh_fields.proofs.FieldRows.{words_row}
-use Rattle.wh_text.proofs.AnswerRows.{side_rows, verdict_rows, heading_row, done_row, inner_rows, answer_rows}
+use Rattle.wh_text.specs.AnswerTexts.{side_rows, verdict_row, verdict_rows, heading_row, done_row, rows_of}
 use Rattle.wh_text.proofs.ReadSides.{tuple_read, like_read, side_told, side_read}
 use Rattle.wh_text.proofs.ReadVerdicts.{verdict_read}
 
@@ -80,7 +80,7 @@ rank_read command n l m =
 
 -- ---- the lines between the rank and the last
 reduced_read : (t : TupleData) (s : SideData) → t.rank ≤ 26 → IsTuple t → IsSideOf t.rank (length t.words) s →
-    ReadsRows (reduced_after t.rank) (record { answer = reduce t s; heads = heads_from 0 s.flows }) (inner_rows (reduce t s))
+    ReadsRows (reduced_after t.rank) (record { answer = reduce t s; heads = heads_from 0 s.flows }) (words_row (codes "tuple") t.words ∷ side_rows s)
 unfolding reduced_after
 reduced_read t s h i j =
     let told : AnswerRead = record { answer = reduce t s; heads = heads_from 0 s.flows } in
@@ -91,7 +91,7 @@ reduced_read t s h i j =
     (side_read t.rank (length t.words) s h j) (λ p. refl))
 
 decided_read : (s t : TupleData) (v : VerdictData) → s.rank ≤ 26 → IsTuple s → IsTupleOf s.rank (length s.words) t → IsVerdictOf s.rank (length s.words) v →
-    ReadsRows (decided_after s.rank) (record { answer = decide s t v; heads = verdict_heads v }) (inner_rows (decide s t v))
+    ReadsRows (decided_after s.rank) (record { answer = decide s t v; heads = verdict_heads v }) (words_row (codes "first") s.words ∷ words_row (codes "second") t.words ∷ verdict_row v ∷ verdict_rows v)
 unfolding decided_after
 decided_read s t v h i j k =
     let n = s.rank in
@@ -99,12 +99,12 @@ decided_read s t v h i j k =
     let told : AnswerRead = record { answer = decide s t v; heads = verdict_heads v } in
     reads_then (tuple_after (codes "first") n)
     (λ s. like_after (codes "second") n (length s.0.words) s.1 >>= λ t. verdict_after n (length s.0.words) t.1 >>= λ v. Ok (record { answer = decide s.0 t.0 v.0.verdict; heads = v.0.heads }, v.1))
-    s told (words_row (codes "first") s.words ∷ []) (words_row (codes "second") t.words ∷ verdict_rows v)
+    s told (words_row (codes "first") s.words ∷ []) (words_row (codes "second") t.words ∷ verdict_row v ∷ verdict_rows v)
     (tuple_read (codes "first") s (written_shown 102 (codes "irst") refl) h i)
     (reads_then (like_after (codes "second") n count) (λ t. verdict_after n count t.1 >>= λ v. Ok (record { answer = decide s t.0 v.0.verdict; heads = v.0.heads }, v.1))
-    t told (words_row (codes "second") t.words ∷ []) (verdict_rows v)
+    t told (words_row (codes "second") t.words ∷ []) (verdict_row v ∷ verdict_rows v)
     (like_read (codes "second") n count t (written_shown 115 (codes "econd") refl) h j)
-    (reads_as (verdict_after n count) (λ v. Ok (record { answer = decide s t v.0.verdict; heads = v.0.heads }, v.1)) (record { verdict = v; heads = verdict_heads v }) told (verdict_rows v)
+    (reads_as (verdict_after n count) (λ v. Ok (record { answer = decide s t v.0.verdict; heads = v.0.heads }, v.1)) (record { verdict = v; heads = verdict_heads v }) told (verdict_row v ∷ verdict_rows v)
     (verdict_read n count v h k) (λ p. refl)))
 
 -- ---- the last line
@@ -145,9 +145,9 @@ all_read command n told rows l m inner =
           ∙ ap (λ r. r >>= λ end. Ok (told, end.1)) (done_read c.0 q c.2 m e);
     }
 
-pub answer_read : (a : AnswerData) → IsCertificate a → TellAnswer (record { answer = a; heads = heads_of a }) (answer_rows a ++ done_row ∷ [])
+pub answer_read : (a : AnswerData) → IsCertificate a → TellAnswer (record { answer = a; heads = heads_of a }) (rows_of a)
 answer_read (reduce t s) h =
-    all_read commands.Reduce t.rank (record { answer = reduce t s; heads = heads_from 0 s.flows }) (inner_rows (reduce t s)) h.1 h.2 (reduced_read t s h.2 h.0 h.3)
+    all_read commands.Reduce t.rank (record { answer = reduce t s; heads = heads_from 0 s.flows }) (words_row (codes "tuple") t.words ∷ side_rows s) h.1 h.2 (reduced_read t s h.2 h.0 h.3)
 answer_read (decide s t v) h =
     let few : s.rank ≤ 26 = omega (arith, h.2) in
-    all_read commands.Decide s.rank (record { answer = decide s t v; heads = verdict_heads v }) (inner_rows (decide s t v)) h.1 h.2 (decided_read s t v few h.0 h.3 h.4)
+    all_read commands.Decide s.rank (record { answer = decide s t v; heads = verdict_heads v }) (words_row (codes "first") s.words ∷ words_row (codes "second") t.words ∷ verdict_row v ∷ verdict_rows v) h.1 h.2 (decided_read s t v few h.0 h.3 h.4)

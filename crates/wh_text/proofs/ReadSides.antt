@@ -13,9 +13,9 @@ use Rattle.wh_lines.specs.declared.read_error.ReadError.TheVariants as errors
 use Rattle.wh_lines.specs.Lines.{Field}
 use Rattle.wh_lines.specs.Readings.{◌>>=◌, items_at, or_bad_line, refused_as}
 use Rattle.wh_fields.specs.Words.{word_text}
-use Rattle.wh_fields.specs.MoveFields.{kind_text, kind_in, move_with, move_at, IsMoveOf}
-use Rattle.wh_fields.specs.FlowFields.{flow_value, FlowData, flow_in, IsFlowOf, heads_from}
-use Rattle.wh_fields.specs.TupleFields.{tuple_at, IsTupleOf}
+use Rattle.wh_fields.specs.MoveFields.{kind_text, kind_in, move_with, move_at, IsMoveOf, moves_row}
+use Rattle.wh_fields.specs.FlowFields.{flow_value, FlowData, flow_in, IsFlowOf, heads_from, flow_row, flow_rows}
+use Rattle.wh_fields.specs.TupleFields.{tuple_at, IsTupleOf, words_row}
 use Rattle.wh_lines.specs.KeptLines.{Kept}
 use Rattle.wh_lines.specs.LineReadings.{Reading, times}
 use Rattle.wh_text.specs.AnswerData.{SideData}
@@ -29,8 +29,7 @@ use Rattle.wh_lines.proofs.RowReadings.{ReadsRows, reads_none, row_then, reads_t
 use Rattle.wh_fields.proofs.ShownFields.{word_shown, kind_shown, flow_shown, written_shown}
 use Rattle.wh_fields.proofs.ReadMoves.{kind_back}
 use Rattle.wh_fields.proofs.ReadFlows.{flow_back}
-use Rattle.wh_fields.proofs.FieldRows.{words_row, moves_row, flow_row}
-use Rattle.wh_text.proofs.AnswerRows.{flow_rows, side_rows}
+use Rattle.wh_text.specs.AnswerTexts.{side_rows}
 
 -- ---- moves
 kind_of : (n : ℕ) (m : Move) → IsMoveOf n m → IsKind n m.kind

@@ -1,5 +1,7 @@
 -- The text of an answer of `reduce` or `decide` that can be checked, and the first refusal of a text that isn't one.
 use Rattle.std.specs.Prelude.{ℕ, ◌==◌, leb, ltb, ◌&&◌, ◌||◌, Bool, cond, List, [], ◌∷◌, ◌++◌, length, map, Option, Some, None, is_some, Result, Ok, Err, codes}
+use Rattle.wh_text.specs.Limits.{most_answer_bytes}
+use Rattle.wh_words.specs.Limits.{most_level_tuples}
 use Rattle.wh_words.specs.Tuples.{TupleData}
 use Rattle.wh_words.specs.Moves.{Move}
 use Rattle.wh_text.specs.declared.command.Command.{Command}
@@ -17,10 +19,6 @@ use Rattle.wh_text.specs.AnswerData.VerdictData.{yes, no_length, no_level}
 use Rattle.wh_text.specs.AnswerData.AnswerData.{reduce, decide}
 use Rattle.wh_lines.specs.LineReadings.{Reading, start, line_after, end_after, times}
 use Rattle.wh_fields.specs.MoveFields.{move_at}
-
--- How many bytes the text may have.
-abbrev pub most_certificate_bytes : ℕ
-most_certificate_bytes = 67108864
 
 -- A refusal of a line with a cause of its own in problems. Here such a line doesn't continue the text.
 abbrev pub in_answer : ReadError → ReadError
@@ -88,11 +86,11 @@ number_in least most [] = None
 number_in least most (f ∷ []) = within least most (number f.bytes)
 number_in least most (f ∷ g ∷ fs) = None
 
--- The next lines are a level in rank n: `level` with the number of its tuples, 1 to 131,072, and an `at` line for each of them.
+-- The next lines are a level in rank n: `level` with the number of its tuples, and an `at` line for each of them.
 unfoldable pub level_after : ℕ → ℕ → Reading → Result (List TupleData × Reading) ReadError
 level_after n count p =
     line_after (codes "level") p >>= λ k.
-    or_bad_line k.0.number (number_in 1 131072 k.0.fields) >>= λ size.
+    or_bad_line k.0.number (number_in 1 most_level_tuples k.0.fields) >>= λ size.
     times (like_after (codes "at") n count) size k.1
 
 -- ---- verdicts
@@ -224,6 +222,6 @@ answer_after p =
 -- The certificate that a text is, or its first refusal: its size first, then its lines in order. Its numbers are those of the lines that were taken.
 unfoldable pub certificate : List ℕ → Result CertificateData ReadError
 certificate bytes =
-    cond (ltb most_certificate_bytes (length bytes)) (Err (errors.InputTooLong most_certificate_bytes))
+    cond (ltb most_answer_bytes (length bytes)) (Err (errors.InputTooLong most_answer_bytes))
     (answer_after (start bytes) >>= λ read.
     Ok (record { answer = read.0.answer; lines = read.1.taken; flow_heads = read.0.heads }))

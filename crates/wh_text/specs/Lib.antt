@@ -1,4 +1,5 @@
 -- What a text means, from its bytes up to problems and answers.
+pub mod Limits
 pub mod RankLines
 pub mod Problems
 pub mod AnswerTexts
@@ -9,4 +10,5 @@ pub mod Certificates
 pub mod VerdictWords
 pub mod Numberings
 pub mod ReadingBack
+pub mod CertificateTexts
 pub mod Laws

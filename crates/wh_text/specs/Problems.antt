@@ -1,5 +1,6 @@
 -- The text of a problem, and the first refusal of a text that isn't one.
 use Rattle.std.specs.Prelude.{ℕ, ◌==◌, ltb, cond, List, [], ◌∷◌, length, Result, Ok, Err, codes}
+use Rattle.wh_text.specs.Limits.{most_problem_bytes}
 use Rattle.wh_words.specs.Tuples.{TupleData}
 use Rattle.wh_lines.specs.declared.read_error.ReadError.{ReadError}
 use Rattle.wh_lines.specs.declared.read_error.ReadError.TheVariants as errors
@@ -24,10 +25,6 @@ pub data ProblemData : Type 0 where
 abbrev pub problem_of : Problem → ProblemData
 problem_of (problems.Reduce t) = reduce t.plain
 problem_of (problems.Decide s t) = decide s.plain t.plain
-
--- How many bytes the text of a problem may have.
-abbrev pub most_bytes : ℕ
-most_bytes = 1048576
 
 -- ---- the tuples
 -- The tuple of rank n that a line tells.
@@ -75,4 +72,4 @@ problem_after command r =
 
 -- The problem of a command that a text states, or the first refusal: its size first.
 unfoldable pub problem : Command → List ℕ → Result ProblemData ReadError
-problem command bytes = cond (ltb most_bytes (length bytes)) (Err (errors.InputTooLong most_bytes)) (problem_after command (start bytes))
+problem command bytes = cond (ltb most_problem_bytes (length bytes)) (Err (errors.InputTooLong most_problem_bytes)) (problem_after command (start bytes))

@@ -8,20 +8,21 @@ use Rattle.wh_lines.specs.Numbers.{number}
 use Rattle.wh_lines.specs.LineReadings.{Reading, line_after}
 use Rattle.wh_text.specs.declared.command.Command.{Command}
 use Rattle.wh_text.specs.declared.command.Command.TheVariants as commands
+use Rattle.wh_words.specs.Limits.{most_rank, most_level_rank}
 
 -- The greatest rank of a command's problems.
 abbrev pub greatest_rank : Command → ℕ
-greatest_rank commands.Reduce = 26
-greatest_rank commands.Decide = 6
+greatest_rank commands.Reduce = most_rank
+greatest_rank commands.Decide = most_level_rank
 
 -- A rank that the command allows.
 abbrev pub allowed_rank : Command → ℕ → Result ℕ ReadError
 allowed_rank command n = cond (leb n (greatest_rank command)) (Ok n) (Err (errors.LevelRank n))
 
--- The rank of a number in line l: 1 to 26, and one that the command allows.
+-- The rank of a number in line l: at least 1, and one that the command allows.
 abbrev pub rank_number : Command → ℕ → Option ℕ → Result ℕ ReadError
 rank_number command l None = Err (errors.RankRange l)
-rank_number command l (Some n) = cond (leb 1 n && leb n 26) (allowed_rank command n) (Err (errors.RankRange l))
+rank_number command l (Some n) = cond (leb 1 n && leb n most_rank) (allowed_rank command n) (Err (errors.RankRange l))
 
 -- The rank of the fields after the keyword: there is one, and it is a number.
 abbrev pub rank_at : Command → ℕ → List Field → Result ℕ ReadError

@@ -1,14 +1,14 @@
 -- Which answers are read back from their own text, and as what.
 use Rattle.std.specs.Prelude.{◌≡◌, ℕ, ◌+◌, ◌<◌, ◌≤◌, List, [], ◌++◌, length, get_or, Ok}
 use Rattle.std.specs.List.{All}
+use Rattle.wh_words.specs.Limits.{most_rank, most_level_rank, most_level_tuples}
 use Rattle.wh_words.specs.Tuples.{IsTuple}
-use Rattle.wh_text.specs.declared.answer.Answer.{Answer}
-use Rattle.wh_lines.specs.Lines.{lines}
-use Rattle.wh_text.specs.AnswerTexts.{answer_text}
-use Rattle.wh_text.specs.AnswerData.{SideData, VerdictData, AnswerData, answer_of}
+use Rattle.wh_text.specs.AnswerTexts.{rows_of, answer_text}
+use Rattle.wh_text.specs.AnswerData.{SideData, VerdictData, AnswerData}
 use Rattle.wh_text.specs.AnswerData.VerdictData.{yes, no_length, no_level, undecided}
 use Rattle.wh_text.specs.AnswerData.AnswerData.{reduce, decide}
-use Rattle.wh_text.specs.Certificates.{most_certificate_bytes, certificate}
+use Rattle.wh_text.specs.Certificates.{certificate}
+use Rattle.wh_text.specs.Limits.{most_answer_bytes}
 use Rattle.wh_fields.specs.FlowFields.{IsFlowOf, heads_from}
 use Rattle.wh_fields.specs.MoveFields.{IsMoveOf}
 use Rattle.wh_fields.specs.TupleFields.{IsTupleOf}
@@ -25,13 +25,13 @@ pub record IsSideOf (n count : ℕ) (s : SideData) : Type 0 where
 abbrev pub IsVerdictOf : ℕ → ℕ → VerdictData → Type 0
 IsVerdictOf n count (yes ms) = All (IsMoveOf n) ms
 IsVerdictOf n count (no_length a b) = IsSideOf n count a × IsSideOf n count b
-IsVerdictOf n count (no_level a b ts) = IsSideOf n count a × IsSideOf n count b × All (IsTupleOf n count) ts × (1 ≤ length ts) × (length ts ≤ 131072)
+IsVerdictOf n count (no_level a b ts) = IsSideOf n count a × IsSideOf n count b × All (IsTupleOf n count) ts × (1 ≤ length ts) × (length ts ≤ most_level_tuples)
 IsVerdictOf n count (undecided bound) = ⊥
 
 -- An answer that isn't undecided, of a rank that its command allows.
 abbrev pub IsCertificate : AnswerData → Type 0
-IsCertificate (reduce t s) = IsTuple t × (1 ≤ t.rank) × (t.rank ≤ 26) × IsSideOf t.rank (length t.words) s
-IsCertificate (decide s t v) = IsTuple s × (1 ≤ s.rank) × (s.rank ≤ 6) × IsTupleOf s.rank (length s.words) t × IsVerdictOf s.rank (length s.words) v
+IsCertificate (reduce t s) = IsTuple t × (1 ≤ t.rank) × (t.rank ≤ most_rank) × IsSideOf t.rank (length t.words) s
+IsCertificate (decide s t v) = IsTuple s × (1 ≤ s.rank) × (s.rank ≤ most_level_rank) × IsTupleOf s.rank (length s.words) t × IsVerdictOf s.rank (length s.words) v
 
 abbrev pub verdict_heads : VerdictData → List (ℕ × ℕ)
 verdict_heads (yes ms) = []
@@ -46,5 +46,5 @@ heads_of (decide s t v) = verdict_heads v
 
 -- The text of an answer that is a certificate, where it isn't too long, is read back as that answer. No line of it is skipped.
 abbrev pub ReadsBack : Type 0
-ReadsBack = (a : Answer) → IsCertificate (answer_of a) → length (answer_text a) ≤ most_certificate_bytes →
-    certificate (answer_text a) ≡ Ok (record { answer = answer_of a; lines = numbers_from 1 (length (lines (answer_text a))); flow_heads = heads_of (answer_of a) })
+ReadsBack = (a : AnswerData) → IsCertificate a → length (answer_text a) ≤ most_answer_bytes →
+    certificate (answer_text a) ≡ Ok (record { answer = a; lines = numbers_from 1 (length (rows_of a)); flow_heads = heads_of a })

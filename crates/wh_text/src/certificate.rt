@@ -6,12 +6,14 @@ ghost use Rattle.wh_lines.specs.LineReadings.{Reads};
 ghost use Rattle.wh_text.specs.AnswerData.{certificate_of};
 ghost use Rattle.wh_text.specs.RankLines as ranks;
 ghost use Rattle.wh_text.specs.Certificates as spec;
-ghost use Rattle.wh_text.specs.Certificates.{certificate, most_certificate_bytes};
+ghost use Rattle.wh_text.specs.Certificates.{certificate};
+ghost use Rattle.wh_text.specs.Limits.{most_answer_bytes};
 ghost use Rattle.wh_text.specs.Numberings.{IsNumbered};
 
 use crate::answer::Answer;
 use crate::answer_line::{bad_line, in_answer, like_after, tuple_after};
 use crate::command::Command;
+use crate::limits::MOST_ANSWER_BYTES;
 use crate::numbered::Numbered;
 use crate::rank_line::read_rank;
 use crate::side_reading::side_after;
@@ -20,9 +22,6 @@ use std::alloc::Global;
 use std::marker::Model;
 use wh_lines::{Field, ReadError, Reader};
 use wh_words::{Letter, List, Rank};
-
-/// How many bytes the text of an answer may have.
-const MOST_BYTES: usize = 67108864;
 
 /// An answer, and the letters and values that its `flow` lines name.
 #[derive(Drop)]
@@ -182,11 +181,11 @@ pub fn read_answer(alloc: Global, bytes: &[u8]) -> Result<Numbered, ReadError>
     ensures read { IfOk result (λ n. certificate bytes.now ≡ Ok (certificate_of n)) }
     ensures numbered { IfOk result (λ n. IsNumbered (certificate_of n)) }
     ensures refused { IfErr result (Refuses (certificate bytes.now)) }
-    ensures too_long { most_certificate_bytes < length bytes.now → result ≡ Err (InputTooLong most_certificate_bytes) }
+    ensures too_long { most_answer_bytes < length bytes.now → result ≡ Err (InputTooLong most_answer_bytes) }
 {
-    if bytes.len() > MOST_BYTES {
+    if bytes.len() > MOST_ANSWER_BYTES {
         return Err(ReadError::InputTooLong {
-            limit: MOST_BYTES as u64,
+            limit: MOST_ANSWER_BYTES as u64,
         });
     }
     let mut reader = Reader::new(alloc, bytes);

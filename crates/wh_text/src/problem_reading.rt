@@ -3,18 +3,17 @@ ghost use Rattle.std.specs.Prelude.{◌≡◌, ◌<◌, ◌^◌, length, map, If
 ghost use Rattle.wh_lines.specs.declared.read_error.ReadError.TheVariants.{InputTooLong};
 ghost use Rattle.wh_lines.specs.Readings.{Gives, Refuses};
 ghost use Rattle.wh_text.specs.Problems as spec;
-ghost use Rattle.wh_text.specs.Problems.{problem, problem_of, most_bytes};
+ghost use Rattle.wh_text.specs.Problems.{problem, problem_of};
+ghost use Rattle.wh_text.specs.Limits.{most_problem_bytes};
 
 use crate::command::Command;
+use crate::limits::MOST_PROBLEM_BYTES;
 use crate::problem::Problem;
 use crate::rank_line::read_rank;
 use std::alloc::Global;
 use wh_fields::read_tuple;
 use wh_lines::{Kept, Next, ReadError, Reader};
 use wh_words::{Rank, Tuple};
-
-/// How many bytes the text of a problem may have.
-const MOST_BYTES: usize = 1048576;
 
 /// The tuple of a line. BadLine comes where its keyword is another one.
 fn read_tuple_line(alloc: Global, rank: Rank, kept: &Kept) -> Result<Tuple, ReadError>
@@ -119,11 +118,11 @@ fn problem_after(alloc: Global, command: Command, reader: &mut Reader) -> Result
 pub fn read_problem(alloc: Global, command: Command, bytes: &[u8]) -> Result<Problem, ReadError>
     ensures read { IfOk result (λ p. problem command bytes.now ≡ Ok (problem_of p)) }
     ensures refused { IfErr result (Refuses (problem command bytes.now)) }
-    ensures too_long { most_bytes < length bytes.now → result ≡ Err (InputTooLong most_bytes) }
+    ensures too_long { most_problem_bytes < length bytes.now → result ≡ Err (InputTooLong most_problem_bytes) }
 {
-    if bytes.len() > MOST_BYTES {
+    if bytes.len() > MOST_PROBLEM_BYTES {
         return Err(ReadError::InputTooLong {
-            limit: MOST_BYTES as u64,
+            limit: MOST_PROBLEM_BYTES as u64,
         });
     }
     problem_after(alloc, command, &mut Reader::new(alloc, bytes))

@@ -1,27 +1,28 @@
 //! The line of the rank.
 ghost use Rattle.std.specs.Prelude.{◌≡◌, ◌≤◌, codes};
+ghost use Rattle.wh_words.specs.Limits.{most_rank};
 ghost use Rattle.wh_lines.specs.Readings.{Gives, refused_as};
 ghost use Rattle.wh_lines.specs.LineReadings.{Reads, line_after};
 ghost use Rattle.wh_text.specs.RankLines as spec;
 
 use crate::command::Command;
 use wh_lines::{Field, Kept, ReadError, Reader, canonical_number};
-use wh_words::Rank;
+use wh_words::{MOST_LEVEL_RANK, MOST_RANK, Rank};
 
 /// The greatest rank of a command's problems.
 fn greatest_rank(command: Command) -> u64
     ensures { result ≡ spec.greatest_rank command }
 {
     match command {
-        Command::Reduce => 26,
-        Command::Decide => 6,
+        Command::Reduce => MOST_RANK as u64,
+        Command::Decide => MOST_LEVEL_RANK as u64,
     }
 }
 
 /// The rank of a number from 1 to 26, where the command allows it.
 fn allowed_rank(command: Command, n: u64) -> Result<Rank, ReadError>
     requires least { 1 ≤ n }
-    requires greatest { n ≤ 26 }
+    requires greatest { n ≤ most_rank }
     ensures { Gives (λ n. n) result (spec.allowed_rank command n) }
 {
     if n > greatest_rank(command) {
@@ -37,7 +38,7 @@ fn rank_number(command: Command, line: u64, read: Option<u64>) -> Result<Rank, R
     let Some(n) = read else {
         return Err(ReadError::RankRange { line });
     };
-    if n < 1 || n > 26 {
+    if n < 1 || n > MOST_RANK as u64 {
         return Err(ReadError::RankRange { line });
     }
     allowed_rank(command, n)

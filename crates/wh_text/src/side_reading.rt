@@ -12,7 +12,7 @@ use wh_fields::FlowLine;
 use wh_flow::Flow;
 use wh_lines::{ReadError, Reader};
 use wh_moves::Move;
-use wh_words::{Letter, List, OutOfMemory, Rank, Tuple};
+use wh_words::{Letter, List, MOST_LEVEL_TUPLES, OutOfMemory, Rank, Tuple};
 
 /// A side, and the letters and values that its `flow` lines name.
 #[derive(Drop)]
@@ -95,7 +95,12 @@ pub fn level_after(
     ensures { Reads plains result reader.new (spec.level_after rank count reader.old) }
 {
     let kept = reader.line_after(b"level")?;
-    let size = read_number(kept.number() as u64, 1, 131072, kept.fields())?;
+    let size = read_number(
+        kept.number() as u64,
+        1,
+        MOST_LEVEL_TUPLES as u64,
+        kept.fields(),
+    )?;
     let tuples = tuples_after(alloc, rank, count, size as usize, reader)?;
     Ok(List::of(tuples))
 }

@@ -70,12 +70,12 @@ decided_by (Decide s t (verdicts.Undecided bound)) (inr e) = absurd (cc)
 
 -- ---- its text is checked
 valid_again : (limit : ℕ) (command : Command) (bytes : List ℕ) (p : ProblemData) (a : answers.Answer) → limit ≤ 131072 → problem command bytes ≡ Ok p → Answers limit p a → IsDecided (answer_of a) →
-    (other : ℕ) → Replies other (answer_text a) tasks.Check Done (codes "valid\n")
+    (other : ℕ) → Replies other (answer_text (answer_of a)) tasks.Check Done (codes "valid\n")
 unfolding checked_text
 valid_again limit command bytes p a low read own decided other =
     let is = (read_problem command bytes p read).0 in
     let readable = answers_readable limit p a low is own decided in
-    checked Valid (reads_back a readable.certificate readable.short) (answers_valid limit p a is own decided)
+    checked Valid (reads_back (answer_of a) readable.certificate readable.short) (answers_valid limit p a is own decided)
 
 reply_valid : (limit : ℕ) (bytes text : List ℕ) (task : Task) (command : Command) (status : Status) → limit ≤ 131072 → task ≡ tasks.Answer command → (status ≡ Done) ⊎ (status ≡ No) → Replies limit bytes task status text →
     (other : ℕ) → Replies other text tasks.Check Done (codes "valid\n")

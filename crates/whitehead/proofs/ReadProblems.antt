@@ -8,7 +8,8 @@ use Rattle.wh_lines.specs.declared.read_error.ReadError.TheVariants as errors
 use Rattle.wh_lines.specs.LineReadings.{start}
 use Rattle.wh_lines.specs.Readings.{◌>>=◌}
 use Rattle.wh_text.specs.RankLines.{rank_after}
-use Rattle.wh_text.specs.Problems.{ProblemData, problem, problem_after, problem_with, tuples_of, most_bytes, one_tuple, two_tuples, decide_both}
+use Rattle.wh_text.specs.Problems.{ProblemData, problem, problem_after, problem_with, tuples_of, one_tuple, two_tuples, decide_both}
+use Rattle.wh_text.specs.Limits.{most_problem_bytes}
 use Rattle.wh_text.specs.Problems.ProblemData.{reduce, decide}
 use Rattle.wh_text.specs.Laws.{IsTupleLine}
 use Rattle.wh_lines.proofs.Equations.{bind_ok, ok_is, if_ok, unless_ok}
@@ -41,7 +42,7 @@ made_of commands.Decide ts p e =
 of_command : (command : Command) (bytes : List ℕ) (p : ProblemData) → problem command bytes ≡ Ok p → IsOf command p
 unfolding problem problem_after
 of_command command bytes p e =
-    let short = unless_ok (ltb most_bytes (length bytes)) (errors.InputTooLong most_bytes) (problem_after command (start bytes)) p e in
+    let short = unless_ok (ltb most_problem_bytes (length bytes)) (errors.InputTooLong most_problem_bytes) (problem_after command (start bytes)) p e in
     let rank = bind_ok (rank_after command (start bytes)) (λ n. tuples_of n.0 n.1.rest >>= λ ts. problem_with command ts) p short.1 in
     let tuples = bind_ok (tuples_of rank.0.0 rank.0.1.rest) (λ ts. problem_with command ts) p rank.2 in
     made_of command tuples.0 p tuples.2

@@ -16,7 +16,8 @@ use Rattle.wh_text.specs.RankLines.{greatest_rank, rank_at, no_rank, rank_after}
 use Rattle.wh_text.specs.AnswerData.{CertificateData}
 use Rattle.wh_text.specs.AnswerData.VerdictData.{yes, no_length, no_level}
 use Rattle.wh_text.specs.AnswerData.AnswerData.{reduce, decide}
-use Rattle.wh_text.specs.Certificates.{most_certificate_bytes, in_answer, tuple_after, like_after, moves_after, flow_after, SideRead, side_with, side_after, level_after, VerdictWord, VerdictRead, sides_after, verdict_in, verdict_with, verdict_after, AnswerRead, reduced_after, decided_after, answer_with, heading_after, done_after, with_end, answer_after, certificate}
+use Rattle.wh_text.specs.Certificates.{in_answer, tuple_after, like_after, moves_after, flow_after, SideRead, side_with, side_after, level_after, VerdictWord, VerdictRead, sides_after, verdict_in, verdict_with, verdict_after, AnswerRead, reduced_after, decided_after, answer_with, heading_after, done_after, with_end, answer_after, certificate}
+use Rattle.wh_text.specs.Limits.{most_answer_bytes}
 use Rattle.wh_text.specs.Certificates.VerdictWord.{a_yes, a_no_length, a_no_level}
 use Rattle.wh_text.proofs.RankLaws.{rank_is}
 use Rattle.wh_lines.proofs.Equations.{bind_ok, ok_same, unless_ok, if_ok, refused_ok}
@@ -147,6 +148,6 @@ pub certificate_tuples : (bytes : List ℕ) (c : CertificateData) → certificat
 unfolding certificate
 certificate_tuples bytes c e =
     let made : AnswerRead × Reading → CertificateData = λ read. record { answer = read.0.answer; lines = read.1.taken; flow_heads = read.0.heads } in
-    let a = unless_ok (ltb most_certificate_bytes (length bytes)) (errors.InputTooLong most_certificate_bytes) (answer_after (start bytes) >>= λ read. Ok (made read)) c e in
+    let a = unless_ok (ltb most_answer_bytes (length bytes)) (errors.InputTooLong most_answer_bytes) (answer_after (start bytes) >>= λ read. Ok (made read)) c e in
     let b = bind_ok (answer_after (start bytes)) (λ read. Ok (made read)) c a.1 in
     ok_same (λ (x : CertificateData). HasTuples x.answer) (made b.0) c b.2 (answer_told (start bytes) b.0 b.1)

@@ -5,9 +5,8 @@ use Rattle.clap.specs.Words.{Text}
 use Rattle.wh_io.specs.Device.{Consumed, next_count}
 use Rattle.wh_text.specs.declared.status.Status.{Status}
 use Rattle.wh_text.specs.declared.status.Status.TheVariants.{Done, No, Refused, Undecided, ReadFault, WriteFault, OutOfMemory}
-use Rattle.wh_text.specs.Problems.{most_bytes}
+use Rattle.wh_text.specs.Limits.{most_problem_bytes, most_answer_bytes}
 use Rattle.wh_text.specs.RefusalTexts.{refused_words_text}
-use Rattle.wh_text.specs.Certificates.{most_certificate_bytes}
 use Rattle.whitehead.specs.declared.arguments.Task.{Task}
 use Rattle.whitehead.specs.declared.arguments.Task.TheVariants.{Answer, Check}
 use Rattle.whitehead.specs.declared.arguments.Arguments.{Arguments}
@@ -17,8 +16,8 @@ use Rattle.whitehead.specs.Streams.{IsWholeUpTo, IsPartRead, IsWritten, IsPartWr
 
 -- How many bytes the input of a task may have.
 abbrev pub most_input : Task → ℕ
-most_input (Answer command) = most_bytes
-most_input Check = most_certificate_bytes
+most_input (Answer command) = most_problem_bytes
+most_input Check = most_answer_bytes
 
 -- What is told for these words and these bytes: a status and a text. Where the words ask nothing, they are refused, and no byte counts.
 pub data Told (words : List Text) (bytes : List ℕ) : Status → List ℕ → Type 0 where
@@ -61,7 +60,7 @@ module _ (words : List Text) (left left' held held' sent' : Option (List ℕ)) w
   RanTo Undecided = HasTold Undecided
   RanTo ReadFault = HasReadPart
   RanTo WriteFault = HasToldPart
-  RanTo OutOfMemory = IsPartRead most_certificate_bytes left left'
+  RanTo OutOfMemory = IsPartRead most_answer_bytes left left'
 
 -- The count of the source's faults after a run: the next where the run ends by a fault of the source, and else the same.
 abbrev pub source_count : ℕ → Status → ℕ

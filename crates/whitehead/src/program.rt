@@ -10,7 +10,7 @@ use crate::reply::reply_to;
 use crate::streams::{InputError, read_all, write_all};
 use std::alloc::Global;
 use wh_io::{Sink, Source};
-use wh_text::{Status, refused_words};
+use wh_text::{MOST_ANSWER_BYTES, MOST_PROBLEM_BYTES, Status, refused_words};
 use wh_words::OutOfMemory;
 
 /// How many bytes the input of a task may have.
@@ -18,8 +18,8 @@ fn most_input(task: Task) -> usize
     ensures { result ≡ spec.most_input task }
 {
     match task {
-        Task::Answer(_) => 1048576,
-        Task::Check => 67108864,
+        Task::Answer(_) => MOST_PROBLEM_BYTES,
+        Task::Check => MOST_ANSWER_BYTES,
     }
 }
 

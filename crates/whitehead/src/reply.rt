@@ -6,7 +6,7 @@ ghost use Rattle.wh_text.specs.declared.status.Status.TheVariants.{Refused};
 ghost use Rattle.wh_lines.specs.declared.read_error.ReadError.TheVariants as errors;
 ghost use Rattle.wh_text.specs.Problems.{problem_of, problem as stated};
 ghost use Rattle.wh_text.specs.AnswerTexts.{answer_text, IsPrintable};
-ghost use Rattle.wh_text.specs.AnswerData.{certificate_of};
+ghost use Rattle.wh_text.specs.AnswerData.{answer_of, certificate_of};
 ghost use Rattle.wh_text.specs.Certificates.{certificate};
 ghost use Rattle.wh_text.specs.Numberings.{IsNumbered};
 ghost use Rattle.wh_text.specs.RefusalTexts.{refusal_text};
@@ -48,9 +48,9 @@ fn refusal_reply(alloc: Global, refusal: ReadError) -> Result<Reply, OutOfMemory
 
 /// The reply that tells an answer: its text, with its status.
 fn reply_with(alloc: Global, answer: &Answer) -> Result<Reply, OutOfMemory>
-    requires { IsPrintable answer.now }
+    requires { IsPrintable (answer_of answer.now) }
     ensures status { IfOk result (λ r. r.status ≡ answer_status answer.now) }
-    ensures text { IfOk result (λ r. r.text ≡ answer_text answer.now) }
+    ensures text { IfOk result (λ r. r.text ≡ answer_text (answer_of answer.now)) }
 {
     let text = print_answer(alloc, answer)?;
     Ok(Reply {
