@@ -1,8 +1,6 @@
 //! Levels: the level moves of a tuple, the rows of a level, its tree and its first walks.
 ghost use Rattle.std.specs.Prelude.{◌≡◌, ◌<◌, ◌≤◌, length, IfOk};
-ghost use Rattle.std.specs.List.{All};
 ghost use Rattle.wh_words.specs.Limits.{most_level_rank};
-ghost use Rattle.wh_words.specs.Levels.{InLevel};
 ghost use Rattle.wh_expand.specs.Rows.{IsRow, row_tuple};
 
 use crate::support::{are_spelled, is_spelled, tuple};
@@ -12,7 +10,7 @@ use std::sync::ledger::{Blank, Ledger};
 use std::test::Fail;
 use wh_expand::{Row, level_moves};
 use wh_level::{Level, Sealed, seal, tree};
-use wh_moves::{Kind, Move, act};
+use wh_moves::{Kind, Move};
 use wh_walk::walk;
 use wh_words::{OutOfMemory, Steps, Tuple};
 use wh_workers::{Explored, explore_one};
@@ -125,28 +123,17 @@ fn a_commutator_has_fifteen_level_moves(rt: HostRuntime) -> Result<(), Fail> {
     Ok(())
 }
 
-/// The rows of a tuple and of its image under its first level move.
-fn first_rows(alloc: Global, root: &Tuple) -> Result<[Row; 2], Fail>
-    requires { root.now.plain.rank ≤ most_level_rank }
-    ensures rows { IfOk result (λ r. All IsRow r) }
-    ensures within { IfOk result (λ r. All (λ q. InLevel root.now.plain (row_tuple q)) r) }
-{
-    let own = row(alloc, root)?;
-    let m = own.moves.items().first().copied().ok_or("no move")?;
-    let image = act(alloc, root, &m)?;
-    let next = row(alloc, &image)?;
-    Ok([own, next])
-}
-
 #[test]
-fn the_rows_of_a_whole_level_are_closed(rt: HostRuntime) -> Result<(), Fail> {
-    let root = low_tuple(rt.alloc(), "rank 2\ntuple abAB\n")?;
-    let rows = first_rows(rt.alloc(), &root)?;
+#[tactic(auto, using(crate::proofs::RootRows::root_row_within, crate::proofs::RootRows::root_row_is))]
+fn the_row_of_an_empty_word_is_a_whole_level(rt: HostRuntime) -> Result<(), Fail> {
+    let root = tuple(rt.alloc(), "rank 2\ntuple 1\n")?;
+    assert!(rt; root.rank().get() <= 6);
+    let rows = [row(rt.alloc(), &root)?];
     let Sealed::Closed(level) = seal(rt.alloc(), &root, &rows)? else {
         return Err("missing")?;
     };
     assert!(rt; level.root().same(&root));
-    assert!(rt; are_spelled(level.tuples(), &["abAB", "aBAb"]));
+    assert!(rt; are_spelled(level.tuples(), &[""]));
     Ok(())
 }
 
