@@ -1,13 +1,11 @@
 -- Readings that give exactly what rows tell: for the laws on which texts are read.
-use Rattle.std.proofs.Common.{◌≡◌, ℕ, suc, zero, ◌+◌, List, [], ◌∷◌, ◌++◌, length, map, refl, sym, ap, ◌∙◌, subst, arith, append_assoc, append-nil, Result, Ok, Err}
-use Rattle.std.specs.List.{All}
+use Rattle.std.proofs.Common.{◌≡◌, ℕ, suc, zero, List, [], ◌∷◌, ◌++◌, length, map, refl, sym, ap, ◌∙◌, subst, arith, append-nil, Result, Ok}
 use Rattle.wh_lines.specs.declared.read_error.ReadError.{ReadError}
-use Rattle.wh_lines.specs.Lines.{Field}
 use Rattle.wh_lines.specs.Readings.{◌>>=◌}
 use Rattle.wh_lines.specs.Rows.{Row}
 use Rattle.wh_lines.specs.Laws.{EachRow}
-use Rattle.wh_lines.specs.KeptLines.{Kept, Rest}
-use Rattle.wh_lines.specs.KeptLines.Rest.{line, bad_byte, end}
+use Rattle.wh_lines.specs.KeptLines.{Kept}
+use Rattle.wh_lines.specs.KeptLines.Rest.{line}
 use Rattle.wh_lines.specs.LineReadings.{Reading, line_after, times}
 use Rattle.wh_lines.proofs.Equations.{bind_ok, ok_is}
 use Rattle.wh_lines.proofs.FieldLaws.{AreSome}

@@ -1,5 +1,5 @@
 -- Readings that are refused at a line by the lines up to it: for the laws on where a text is refused.
-use Rattle.std.proofs.Common.{◌≡◌, ℕ, suc, zero, ◌+◌, ◌<◌, Bool, true, false, cond, List, [], ◌∷◌, ◌++◌, length, refl, sym, ap, ◌∙◌, subst, arith, None, Some, Result, Ok, Err, inl, inr}
+use Rattle.std.proofs.Common.{◌≡◌, ℕ, suc, zero, ◌+◌, ◌<◌, Bool, true, false, cond, List, [], ◌∷◌, ◌++◌, length, refl, sym, ap, subst, arith, None, Some, Result, Ok, Err, inl, inr}
 use Rattle.std.specs.declared.option.Option.{Option}
 use Rattle.wh_lines.specs.declared.read_error.ReadError.{ReadError}
 use Rattle.wh_lines.specs.declared.read_error.ReadError.TheVariants as errors

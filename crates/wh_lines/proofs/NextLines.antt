@@ -1,5 +1,5 @@
 -- What the next line of a reading is: for the reader, and for all that reads.
-use Rattle.std.proofs.Common.{◌≡◌, ℕ, ◌+◌, Bool, true, false, cond, List, [], ◌∷◌, ◌++◌, length, refl, sym, ap, ◌∙◌, subst, None, Some, Result, Ok, Err}
+use Rattle.std.proofs.Common.{◌≡◌, ℕ, Bool, true, false, cond, List, [], ◌∷◌, ◌++◌, refl, sym, ap, ◌∙◌, subst, None, Some, Result, Ok, Err}
 use Rattle.std.specs.declared.option.Option.{Option}
 use Rattle.wh_lines.specs.declared.read_error.ReadError.{ReadError}
 use Rattle.wh_lines.specs.declared.read_error.ReadError.TheVariants as errors

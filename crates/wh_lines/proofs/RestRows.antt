@@ -1,17 +1,17 @@
 -- The rows that a text tells, from its lines: for the laws on whole texts.
-use Rattle.std.proofs.Common.{◌≡◌, ℕ, suc, ◌+◌, ◌==◌, Bool, true, false, cond, List, [], ◌∷◌, ◌++◌, length, map, refl, sym, ap, ◌∙◌, arith, append_assoc, append-nil, subst, None, Some, inl, inr}
+use Rattle.std.proofs.Common.{◌≡◌, ℕ, ◌+◌, Bool, true, false, cond, List, [], ◌∷◌, ◌++◌, length, map, refl, sym, ap, ◌∙◌, append_assoc, append-nil, subst, None, Some}
 use Rattle.std.specs.Prelude.{◌||◌}
 use Rattle.std.specs.declared.option.Option.{Option}
 use Rattle.std.specs.List.{All}
 use Rattle.std.proofs.lemmas.List.Elements.{All-nil, All-cons, All-head, All-tail}
-use Rattle.std.proofs.lemmas.Bool.{cases_Bool, cond-true, cond-false, false≢true}
+use Rattle.std.proofs.lemmas.Bool.{cond-true, cond-false, false≢true}
 use Rattle.wh_lines.specs.Lines.{Field, bad_at, is_comment, fields}
 use Rattle.wh_lines.specs.KeptLines.{Kept, Rest, rest, line_fields, kept_or, unless_bad}
 use Rattle.wh_lines.specs.KeptLines.Rest.{line, bad_byte, end}
 use Rattle.wh_lines.specs.LineReadings.{Reading}
 use Rattle.wh_lines.specs.Laws.{IsClean, is_skipped, kept_lines, kept_numbers, field_texts, numbers_from, texts_of}
 use Rattle.wh_lines.proofs.SkippedLines.{bad_clean, clean_bad, is_none, skipped_is}
-use Rattle.wh_lines.proofs.FieldLaws.{AreSome, fields_some, rest_some}
+use Rattle.wh_lines.proofs.FieldLaws.{AreSome, rest_some}
 use Rattle.wh_lines.proofs.NextLines.{behind}
 use Rattle.wh_lines.specs.Rows.{Row, row_bytes}
 use Rattle.wh_lines.proofs.PrintedRows.{IsShownRow, row_fields, row_clean, row_kept}

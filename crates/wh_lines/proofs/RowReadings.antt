@@ -1,12 +1,12 @@
 -- Lines that tell rows, and what is read of them: for the laws on whole texts.
-use Rattle.std.proofs.Common.{◌≡◌, ℕ, suc, zero, ◌+◌, List, [], ◌∷◌, ◌++◌, length, map, refl, sym, ap, ◌∙◌, arith, append_assoc, append-nil, subst, Result, Ok}
+use Rattle.std.proofs.Common.{◌≡◌, ℕ, suc, zero, List, [], ◌∷◌, ◌++◌, map, refl, sym, ap, ◌∙◌, subst, Result, Ok}
 use Rattle.std.specs.List.{All}
 use Rattle.std.proofs.lemmas.List.Elements.{All-nil, All-cons, All-head, All-tail, All-append}
 use Rattle.wh_lines.specs.declared.read_error.ReadError.{ReadError}
 use Rattle.wh_lines.specs.Lines.{Field}
 use Rattle.wh_lines.specs.Readings.{◌>>=◌}
 use Rattle.wh_lines.specs.KeptLines.{Kept, Rest}
-use Rattle.wh_lines.specs.KeptLines.Rest.{line, bad_byte, end}
+use Rattle.wh_lines.specs.KeptLines.Rest.{line}
 use Rattle.wh_lines.specs.LineReadings.{Reading, line_after, times}
 use Rattle.wh_lines.proofs.FieldLaws.{AreSome}
 use Rattle.wh_lines.proofs.NextLines.{behind, line_there}
