@@ -1,25 +1,20 @@
 -- A move is read exactly from the fields that spell it: for the law on moves.
-use Rattle.std.proofs.Common.{◌≡◌, ◌≢◌, ℕ, zero, suc, ◌+◌, ◌*◌, ◌^◌, ◌<◌, ◌≤◌, ◌==◌, ltb, Bool, true, false, cond, List, [], ◌∷◌, ◌++◌, length, map, bit_or, refl, sym, ap, ◌∙◌, subst, arith, None, Some, inl, inr, pow_mono, pow-suc, lt_of_lt_of_le}
+use Rattle.std.proofs.Common.{◌≡◌, ℕ, suc, ◌+◌, ◌*◌, ◌^◌, ◌<◌, ◌≤◌, ◌==◌, ltb, Bool, true, false, cond, List, [], ◌∷◌, ◌++◌, map, bit_or, refl, sym, ap, ◌∙◌, subst, arith, None, Some, pow_mono, pow-suc, lt_of_lt_of_le}
 use Rattle.std.specs.Prelude.{◌&&◌, leb, not, codes, decimal}
 use Rattle.std.specs.declared.option.Option.{Option}
 use Rattle.std.specs.Option.{option_and_then}
-use Rattle.std.specs.Int.{bit_at}
 use Rattle.std.specs.Int.Bits.{or_shifted_r}
 use Rattle.std.specs.List.{All}
 use Rattle.std.proofs.lemmas.List.Elements.{All-nil, All-cons, All-head, All-tail}
-use Rattle.std.proofs.lemmas.Bool.{cases_Bool, cond-true, cond-false, eqb-true, false≢true}
+use Rattle.std.proofs.lemmas.Bool.{cond-true, eqb-true}
 use Rattle.std.proofs.lemmas.Bool.Decides.{nat_tests}
-use Rattle.std.proofs.lemmas.Fmt.{decimal_nonempty}
 use Rattle.std.proofs.lemmas.Option.{option_and_then_some}
 use Rattle.wh_words.specs.Letters.{inverse_letter}
 use Rattle.wh_words.specs.LetterSets.{in_set}
-use Rattle.wh_words.specs.Words.{IsOfRank}
 use Rattle.wh_words.specs.Moves.{Kind}
 use Rattle.wh_words.specs.Moves.Kind.{swap, invert, cut}
 use Rattle.wh_lines.specs.Numbers.{number}
-use Rattle.wh_lines.proofs.Equations.{both_true}
 use Rattle.wh_lines.proofs.NumberLaws.{reads_numbers}
-use Rattle.wh_lines.proofs.Scanning.{eq_true, eq_false}
 use Rattle.wh_fields.specs.Words.{letter_of, letter_text}
 use Rattle.wh_fields.specs.MoveFields.{letter_from, set_from, swap_of, invert_of, cut_with, cut_of, kind_from, kind_in}
 use Rattle.wh_fields.specs.Laws.{RisesFrom, set_of, IsMoveField, ReadsMoves}

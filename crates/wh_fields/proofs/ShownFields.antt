@@ -16,7 +16,7 @@ use Rattle.wh_fields.specs.MoveFields.{set_item, set_text, kind_text}
 use Rattle.wh_fields.specs.FlowFields.{flow_value, IsFlowOf, pair_item, pair_fields, flow_row}
 use Rattle.wh_lines.proofs.Equations.{both_true, not_nil}
 use Rattle.wh_lines.proofs.PrintedRows.{IsShownByte, IsShown, IsShownRow}
-use Rattle.wh_fields.proofs.ItemRuns.{items_from, pair_items, pair_fields_are, below_is, items_all}
+use Rattle.wh_fields.proofs.ItemRuns.{items_from, pair_fields_are, below_is, items_all}
 
 -- a field of a first byte and others
 pub shown_from : (b : ℕ) (bs : List ℕ) → IsShownByte b → All IsShownByte bs → IsShown (b ∷ bs)

@@ -1,5 +1,5 @@
 -- What a `tuple` line tells: words, neither too many nor with too many letters as they are written.
-use Rattle.std.specs.Prelude.{ℕ, ltb, cond, List, ◌∷◌, length, map, Result, Ok, Err, ◌≡◌}
+use Rattle.std.specs.Prelude.{ℕ, ltb, cond, List, length, map, Result, Ok, Err, ◌≡◌}
 use Rattle.std.specs.List.{sum_by}
 use Rattle.wh_words.specs.Limits.{most_words, most_letters}
 use Rattle.wh_words.specs.CyclicWords.{cyclic_word}

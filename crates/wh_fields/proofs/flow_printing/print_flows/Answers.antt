@@ -1,4 +1,4 @@
-use Rattle.std.proofs.Common.{◌∙◌, ℕ, ◌<◌, [], ◌*◌, ◌++◌, length, get_or, refl, ap, arith, take}
+use Rattle.std.proofs.Common.{◌∙◌, ◌<◌, [], ◌*◌, ◌++◌, length, refl, ap, arith}
 use Rattle.std.proofs.lemmas.List.{get_or_read_under, take_all}
 use Rattle.wh_lines.specs.Rows.{row_text, rows_text}
 use Rattle.wh_fields.specs.FlowFields.{flow_row, flow_rows}
