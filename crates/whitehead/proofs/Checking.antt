@@ -3,6 +3,7 @@ use Rattle.std.proofs.Common.{◌≡◌, ◌⊎◌, ◌≤◌, ℕ, List, [], �
 use Rattle.std.specs.Prelude.{codes}
 use Rattle.clap.specs.Words.{Row, Text, Kinds, first_of, fault_of, matches_of}
 use Rattle.std.proofs.lemmas.Bool.Decides.{nat_tests}
+use Rattle.wh_words.specs.Limits.{most_level_tuples}
 use Rattle.wh_text.specs.declared.status.Status.{Status}
 use Rattle.wh_text.specs.declared.status.Status.TheVariants.{Done, No}
 use Rattle.wh_text.specs.declared.command.Command.{Command}
@@ -49,13 +50,13 @@ together_limit (Some task) (Some limit) (Some workers) a e =
     let same : record { task = task; limit = limit; workers = workers } ≡ a = (cc) in
     ap (λ (b : Arguments). Some b.limit) same
 
-unless_limit : (kinds : Kinds) (rows : List Row) (a : Arguments) → asked_unless kinds rows ≡ Some a → a.limit ≤ 131072
+unless_limit : (kinds : Kinds) (rows : List Row) (a : Arguments) → asked_unless kinds rows ≡ Some a → a.limit ≤ most_level_tuples
 unless_limit [] rows a e =
-    let limit = together_limit (task_in (first_of (codes "COMMAND") rows)) (option_in 1 131072 10000 (first_of (codes "limit") rows)) (option_in 1 64 1 (first_of (codes "workers") rows)) a e in
-    option_within 1 131072 10000 (first_of (codes "limit") rows) a.limit (omega arith) limit
+    let limit = together_limit (task_in (first_of (codes "COMMAND") rows)) (option_in 1 most_level_tuples 10000 (first_of (codes "limit") rows)) (option_in 1 64 1 (first_of (codes "workers") rows)) a e in
+    option_within 1 most_level_tuples 10000 (first_of (codes "limit") rows) a.limit (omega arith) limit
 unless_limit (k ∷ ks) rows a e = absurd (cc)
 
-asked_limit : (words : List Text) (a : Arguments) → asked words ≡ Some a → a.limit ≤ 131072
+asked_limit : (words : List Text) (a : Arguments) → asked words ≡ Some a → a.limit ≤ most_level_tuples
 unfolding asked
 asked_limit words a e = unless_limit (fault_of program words) (matches_of program words) a e
 
@@ -69,7 +70,7 @@ decided_by (Decide s t (verdicts.Undecided bound)) (inl e) = absurd (cc)
 decided_by (Decide s t (verdicts.Undecided bound)) (inr e) = absurd (cc)
 
 -- ---- its text is checked
-valid_again : (limit : ℕ) (command : Command) (bytes : List ℕ) (p : ProblemData) (a : answers.Answer) → limit ≤ 131072 → problem command bytes ≡ Ok p → Answers limit p a → IsDecided (answer_of a) →
+valid_again : (limit : ℕ) (command : Command) (bytes : List ℕ) (p : ProblemData) (a : answers.Answer) → limit ≤ most_level_tuples → problem command bytes ≡ Ok p → Answers limit p a → IsDecided (answer_of a) →
     (other : ℕ) → Replies other (answer_text (answer_of a)) tasks.Check Done (codes "valid\n")
 unfolding checked_text
 valid_again limit command bytes p a low read own decided other =
@@ -77,7 +78,7 @@ valid_again limit command bytes p a low read own decided other =
     let readable = answers_readable limit p a low is own decided in
     checked Valid (reads_back (answer_of a) readable.certificate readable.short) (answers_valid limit p a is own decided)
 
-reply_valid : (limit : ℕ) (bytes text : List ℕ) (task : Task) (command : Command) (status : Status) → limit ≤ 131072 → task ≡ tasks.Answer command → (status ≡ Done) ⊎ (status ≡ No) → Replies limit bytes task status text →
+reply_valid : (limit : ℕ) (bytes text : List ℕ) (task : Task) (command : Command) (status : Status) → limit ≤ most_level_tuples → task ≡ tasks.Answer command → (status ≡ Done) ⊎ (status ≡ No) → Replies limit bytes task status text →
     (other : ℕ) → Replies other text tasks.Check Done (codes "valid\n")
 reply_valid limit bytes text task command status low is (inl e) (refused r) other = absurd (cc)
 reply_valid limit bytes text task command status low is (inr e) (refused r) other = absurd (cc)
