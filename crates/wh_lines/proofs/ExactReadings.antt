@@ -148,7 +148,7 @@ pub record Rows {A : Type 0} (T : Row → A → Type 0) (k : ℕ) (rows : List R
   pub each : EachRow T rows xs
   pub count : length xs ≡ k
 
-each_more : {A : Type 0} (T : Row → A → Type 0) (k : ℕ) (rows : List Row) (xs : List A) (s : Then (OneRow T) (λ x. Then (Rows T k) (λ ys. Nothing (x ∷ ys))) rows xs) → Rows T (suc k) rows xs
+pub each_more : {A : Type 0} (T : Row → A → Type 0) (k : ℕ) (rows : List Row) (xs : List A) (s : Then (OneRow T) (λ x. Then (Rows T k) (λ ys. Nothing (x ∷ ys))) rows xs) → Rows T (suc k) rows xs
 each_more {A = A} T k rows xs s =
     let more : s.x ∷ s.two.x ≡ xs = s.two.two.same in
     let parts : rows ≡ s.one.row ∷ s.two.first =
@@ -182,7 +182,7 @@ no_rows T [] (x ∷ xs) s = absurd s.each
 no_rows T (r ∷ rows) [] s = absurd s.each
 no_rows T (r ∷ rows) (x ∷ xs) s = absurd (omega (arith, s.count))
 
-none_rows : {A : Type 0} (T : Row → A → Type 0) (rows : List Row) (xs : List A) → Nothing [] rows xs → Rows T zero rows xs
+pub none_rows : {A : Type 0} (T : Row → A → Type 0) (rows : List Row) (xs : List A) → Nothing [] rows xs → Rows T zero rows xs
 none_rows {A = A} T rows xs s = subst (λ (ys : List A). Rows T zero rows ys) s.same (subst (λ (rs : List Row). Rows T zero rs []) (sym s.none) (record { each = tt; count = refl }))
 
 pub exact_times : {A : Type 0} (read : Reading → Result (A × Reading) ReadError) (T : Row → A → Type 0) (k : ℕ) → Exact read (OneRow T) → Exact (times read k) (Rows T k)

@@ -18,3 +18,5 @@ pub mod BadBytes
 pub mod TakenLines
 pub mod ExactReadings
 pub mod LocalReadings
+pub mod CompletedReadings
+pub mod ContinuedTexts

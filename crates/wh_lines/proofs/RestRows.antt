@@ -36,13 +36,13 @@ AllSome (end l) = Unit {0}
 
 -- ---- a line
 -- a skipped line is nothing, and another one is a line with its fields
-record IsLine (l : ℕ) (bytes : List ℕ) (k : Kept) : Type 0 where
-  texts : k.keyword ∷ map (λ f. f.bytes) k.fields ≡ field_texts bytes
-  some : AreSome k.fields
+pub record IsOf (bytes : List ℕ) (k : Kept) : Type 0 where
+  pub texts : k.keyword ∷ map (λ f. f.bytes) k.fields ≡ field_texts bytes
+  pub some : AreSome k.fields
 
-data LineCase (l : ℕ) (bytes : List ℕ) : Type 0 where
+pub data LineCase (l : ℕ) (bytes : List ℕ) : Type 0 where
   skipped : is_skipped bytes ≡ true → ((later : Rest) → kept_or l (line_fields bytes) later ≡ later) → LineCase l bytes
-  kept : is_skipped bytes ≡ false → (k : Kept) → k.number ≡ l → IsLine l bytes k → ((later : Rest) → kept_or l (line_fields bytes) later ≡ line k later) → LineCase l bytes
+  kept : is_skipped bytes ≡ false → (k : Kept) → k.number ≡ l → IsOf bytes k → ((later : Rest) → kept_or l (line_fields bytes) later ≡ line k later) → LineCase l bytes
 
 case_by : (l : ℕ) (bytes : List ℕ) (t : Bool) (fs : List Field) → is_comment bytes ≡ t → fields 1 bytes ≡ fs → LineCase l bytes
 case_by l bytes true fs c e =
@@ -54,7 +54,7 @@ case_by l bytes false (f ∷ fs) c e =
     (record { texts = sym (ap (map (λ f. f.bytes)) e); some = rest_some bytes f fs e })
     (λ later. ap (λ t. kept_or l (cond t [] (fields 1 bytes)) later) c ∙ ap (λ fs. kept_or l fs later) e)
 
-line_case : (l : ℕ) (bytes : List ℕ) → LineCase l bytes
+pub line_case : (l : ℕ) (bytes : List ℕ) → LineCase l bytes
 line_case l bytes = case_by l bytes (is_comment bytes) (fields 1 bytes) refl refl
 
 -- a line of clean bytes
@@ -78,37 +78,45 @@ pub record HaveRows (ls : List (List ℕ)) (rows : List Row) : Type 0 where
   pub clean : All IsClean ls
   pub texts : map field_texts (kept_lines ls) ≡ map texts_of rows
 
-have_kept : (l : ℕ) (bytes : List ℕ) (k : Kept) (later : Rest) (ls : List (List ℕ)) (rows : List Row) → IsClean bytes → is_skipped bytes ≡ false → IsLine l bytes k →
+pub have_none : HaveRows [] []
+have_none = record { clean = All-nil IsClean; texts = refl }
+
+pub have_skipped : (bytes : List ℕ) (ls : List (List ℕ)) (rows : List Row) → IsClean bytes → is_skipped bytes ≡ true → HaveRows ls rows → HaveRows (bytes ∷ ls) rows
+have_skipped bytes ls rows clean s h = record {
+  clean = All-cons IsClean bytes ls clean h.clean;
+  texts = ap (map field_texts) (cond-true (is_skipped bytes) (kept_lines ls) (bytes ∷ kept_lines ls) s) ∙ h.texts;
+}
+
+pub have_line : (bytes : List ℕ) (ls : List (List ℕ)) (r : Row) (rows : List Row) → IsClean bytes → is_skipped bytes ≡ false → field_texts bytes ≡ texts_of r → HaveRows ls rows → HaveRows (bytes ∷ ls) (r ∷ rows)
+have_line bytes ls r rows clean s t h = record {
+  clean = All-cons IsClean bytes ls clean h.clean;
+  texts = ap (map field_texts) (cond-false (is_skipped bytes) (kept_lines ls) (bytes ∷ kept_lines ls) s) ∙ ap (λ ts. ts ∷ map field_texts (kept_lines ls)) t ∙ ap (λ tss. texts_of r ∷ tss) h.texts;
+}
+
+-- the row of a line that tells one
+pub texts_told : (bytes : List ℕ) (k : Kept) (r : Row) → IsOf bytes k → Tells r k → field_texts bytes ≡ texts_of r
+texts_told bytes k r is tells = sym is.texts ∙ ap (λ w. w ∷ map (λ f. f.bytes) k.fields) tells.keyword ∙ ap (λ ws. r.keyword ∷ ws) tells.same
+
+have_kept : (bytes : List ℕ) (k : Kept) (later : Rest) (ls : List (List ℕ)) (rows : List Row) → IsClean bytes → is_skipped bytes ≡ false → IsOf bytes k →
     Holds (line k later) rows → ((more : List Row) → Holds later more → HaveRows ls more) → HaveRows (bytes ∷ ls) rows
-have_kept l bytes k later ls [] clean s t h rec = absurd h
-have_kept l bytes k later ls (r ∷ rows) clean s t h rec =
-    let q = rec rows h.1 in
-    record {
-      clean = All-cons IsClean bytes ls clean q.clean;
-      texts = ap (map field_texts) (cond-false (is_skipped bytes) (kept_lines ls) (bytes ∷ kept_lines ls) s)
-          ∙ ap (λ ts. ts ∷ map field_texts (kept_lines ls)) (sym t.texts ∙ ap (λ w. w ∷ map (λ f. f.bytes) k.fields) h.0.keyword ∙ ap (λ ws. r.keyword ∷ ws) h.0.same)
-          ∙ ap (λ tss. texts_of r ∷ tss) q.texts;
-    }
+have_kept bytes k later ls [] clean s is h rec = absurd h
+have_kept bytes k later ls (r ∷ rows) clean s is h rec = have_line bytes ls r rows clean s (texts_told bytes k r is h.0) (rec rows h.1)
 
 pub holds_is : (l : ℕ) (ls : List (List ℕ)) (rows : List Row) → Holds (rest l ls) rows → HaveRows ls rows
 unfolding rest
-holds_is l [] [] h = record { clean = All-nil IsClean; texts = refl }
+holds_is l [] [] h = have_none
 holds_is l [] (r ∷ rows) h = absurd h
 holds_is l (bytes ∷ ls) rows h =
     let p = holds_line l bytes ls rows h in
     elim (line_case l bytes) [
-      | skipped s same ↦ (let q = holds_is (l + 1) ls rows (subst (λ (r : Rest). Holds r rows) (same (rest (l + 1) ls)) p.1) in
-          record {
-            clean = All-cons IsClean bytes ls p.0 q.clean;
-            texts = ap (map field_texts) (cond-true (is_skipped bytes) (kept_lines ls) (bytes ∷ kept_lines ls) s) ∙ q.texts;
-          })
-      | kept s k n t same ↦ have_kept l bytes k (rest (l + 1) ls) ls rows p.0 s t (subst (λ (r : Rest). Holds r rows) (same (rest (l + 1) ls)) p.1) (λ more g. holds_is (l + 1) ls more g)
+      | skipped s same ↦ have_skipped bytes ls rows p.0 s (holds_is (l + 1) ls rows (subst (λ (r : Rest). Holds r rows) (same (rest (l + 1) ls)) p.1))
+      | kept s k n is same ↦ have_kept bytes k (rest (l + 1) ls) ls rows p.0 s is (subst (λ (r : Rest). Holds r rows) (same (rest (l + 1) ls)) p.1) (λ more g. holds_is (l + 1) ls more g)
     ]
 
-back_kept : (l : ℕ) (bytes : List ℕ) (k : Kept) (later : Rest) (rows : List Row) (others : List (List (List ℕ))) → IsLine l bytes k → field_texts bytes ∷ others ≡ map texts_of rows →
+back_kept : (bytes : List ℕ) (k : Kept) (later : Rest) (rows : List Row) (others : List (List (List ℕ))) → IsOf bytes k → field_texts bytes ∷ others ≡ map texts_of rows →
     ((more : List Row) → others ≡ map texts_of more → Holds later more) → Holds (line k later) rows
-back_kept l bytes k later [] others t e rec = absurd (cc)
-back_kept l bytes k later (r ∷ rows) others t e rec =
+back_kept bytes k later [] others t e rec = absurd (cc)
+back_kept bytes k later (r ∷ rows) others t e rec =
     let here : k.keyword ∷ map (λ f. f.bytes) k.fields ≡ texts_of r = t.texts ∙ (cc) in
     let more : others ≡ map texts_of rows = (cc) in
     let keyword : k.keyword ≡ r.keyword = (cc) in
@@ -127,7 +135,7 @@ holds_back l (bytes ∷ ls) rows h =
       | skipped s same ↦ subst (λ (r : Rest). Holds r rows) (sym (same (rest (l + 1) ls)))
           (holds_back (l + 1) ls rows (record { clean = others; texts = sym (ap (map field_texts) (cond-true (is_skipped bytes) (kept_lines ls) (bytes ∷ kept_lines ls) s)) ∙ h.texts }))
       | kept s k n t same ↦ subst (λ (r : Rest). Holds r rows) (sym (same (rest (l + 1) ls)))
-          (back_kept l bytes k (rest (l + 1) ls) rows (map field_texts (kept_lines ls)) t (sym (ap (map field_texts) (cond-false (is_skipped bytes) (kept_lines ls) (bytes ∷ kept_lines ls) s)) ∙ h.texts)
+          (back_kept bytes k (rest (l + 1) ls) rows (map field_texts (kept_lines ls)) t (sym (ap (map field_texts) (cond-false (is_skipped bytes) (kept_lines ls) (bytes ∷ kept_lines ls) s)) ∙ h.texts)
           (λ more e. holds_back (l + 1) ls more (record { clean = others; texts = e })))
     ])
 

@@ -1,12 +1,11 @@
 -- The verdict of a certificate and the lines of its command are read exactly from what they tell: for the law on certificates.
-use Rattle.std.proofs.Common.{◌≡◌, ℕ, ◌+◌, ◌≤◌, Bool, true, false, cond, List, [], ◌∷◌, ◌++◌, length, map, refl, sym, ap, ◌∙◌, subst, arith, append-nil, Ok, Err}
+use Rattle.std.proofs.Common.{◌≡◌, ℕ, ◌≤◌, Bool, true, false, cond, List, [], ◌∷◌, ◌++◌, length, map, refl, sym, ap, ◌∙◌, subst, append-nil, Ok, Err}
 use Rattle.std.specs.Prelude.{◌&&◌, ◌||◌, is_some, codes}
 use Rattle.wh_lines.specs.declared.read_error.ReadError.TheVariants as errors
-use Rattle.wh_lines.specs.Lines.{Field, lines, are}
+use Rattle.wh_lines.specs.Lines.{Field, are}
 use Rattle.wh_lines.specs.Readings.{◌>>=◌}
 use Rattle.wh_lines.specs.Numbers.{number}
 use Rattle.wh_lines.specs.Rows.{Row}
-use Rattle.wh_lines.specs.KeptLines.Rest.{line}
 use Rattle.wh_lines.proofs.Equations.{ok_is, if_ok, both_true, are_is}
 use Rattle.wh_lines.proofs.ExactReadings.{Exact, Then, Headed, Nothing, OneRow, exact_none, exact_then, exact_head, exact_as}
 use Rattle.wh_text.specs.declared.command.Command.{Command}
@@ -15,7 +14,7 @@ use Rattle.wh_text.specs.AnswerData.{SideData, VerdictData}
 use Rattle.wh_text.specs.AnswerData.VerdictData.{yes, no_length, no_level, undecided}
 use Rattle.wh_text.specs.AnswerData.AnswerData.{reduce, decide}
 use Rattle.wh_text.specs.AnswerTexts.{verdict_row}
-use Rattle.wh_text.specs.Certificates.{tuple_after, like_after, moves_after, SideRead, side_after, level_after, VerdictWord, verdict_in, VerdictRead, sides_after, verdict_with, verdict_after, AnswerRead, reduced_after, decided_after, answer_with, certificate}
+use Rattle.wh_text.specs.Certificates.{tuple_after, like_after, moves_after, SideRead, side_after, level_after, VerdictWord, verdict_in, VerdictRead, sides_after, verdict_with, verdict_after, AnswerRead, reduced_after, decided_after, answer_with}
 use Rattle.wh_text.specs.Certificates.VerdictWord.{a_yes, a_no_length, a_no_level}
 use Rattle.wh_text.specs.CertificateTexts.{IsTupleRow, IsLikeRow, IsMovesRow, IsLevelText, AreSideTexts, IsVerdictText}
 use Rattle.wh_text.proofs.ExactLines.{same_row, IsSideRead, exact_tuple, exact_like, exact_moves, exact_side, exact_level}
@@ -32,7 +31,7 @@ pub alone : {A : Type 0} (y z : A) (rows first second : List Row) → rows ≡ f
 alone y z rows first second e n = e ∙ ap (λ rs. first ++ rs) n.none ∙ append-nil first
 
 -- ---- two sides
-abbrev Sides : ℕ → ℕ → List Row → SideRead × SideRead → Type 0
+abbrev pub Sides : ℕ → ℕ → List Row → SideRead × SideRead → Type 0
 Sides n count = Then (IsSideRead n count) (λ a. Then (IsSideRead n count) (λ b. Nothing (a, b)))
 
 abbrev SidesTold : ℕ → ℕ → List Row → SideRead × SideRead → Type 0
@@ -69,7 +68,7 @@ sides_again n count rows a b heads s = record {
   };
 }
 
-exact_sides : (n count : ℕ) → n ≤ 26 → Exact (sides_after n count) (Sides n count)
+pub exact_sides : (n count : ℕ) → n ≤ 26 → Exact (sides_after n count) (Sides n count)
 unfolding sides_after
 exact_sides n count h =
     exact_then (side_after n count) (λ a. side_after n count a.1 >>= λ b. Ok ((a.0, b.0), b.1)) (IsSideRead n count) (λ a. Then (IsSideRead n count) (λ b. Nothing (a, b)))
@@ -77,12 +76,12 @@ exact_sides n count h =
     (λ a. exact_then (side_after n count) (λ b. Ok ((a, b.0), b.1)) (IsSideRead n count) (λ b. Nothing (a, b)) (exact_side n count h) (λ b. exact_none (a, b)))
 
 -- ---- verdicts
-abbrev word_fields : VerdictWord → List (List ℕ)
+abbrev pub word_fields : VerdictWord → List (List ℕ)
 word_fields a_yes = codes "yes" ∷ []
 word_fields a_no_length = codes "no" ∷ codes "length" ∷ []
 word_fields a_no_level = codes "no" ∷ codes "level" ∷ []
 
-abbrev word_row : VerdictWord → Row
+abbrev pub word_row : VerdictWord → Row
 word_row w = record { keyword = codes "verdict"; fields = word_fields w }
 
 two_are : (f g : Field) (a b : List ℕ) → (are f.bytes a && are g.bytes b) ≡ true → f.bytes ∷ g.bytes ∷ [] ≡ a ∷ b ∷ []
@@ -96,7 +95,7 @@ no_told l f g w true t a b e = two_are f g (codes "no") (codes "length") a ∙ a
 no_told l f g w false true a b e = two_are f g (codes "no") (codes "level") b ∙ ap word_fields (ok_is a_no_level w e)
 no_told l f g w false false a b e = absurd (cc)
 
-word_told : (l : ℕ) (fs : List Field) (w : VerdictWord) → verdict_in l fs ≡ Ok w → map (λ f. f.bytes) fs ≡ word_fields w
+pub word_told : (l : ℕ) (fs : List Field) (w : VerdictWord) → verdict_in l fs ≡ Ok w → map (λ f. f.bytes) fs ≡ word_fields w
 unfolding verdict_in
 word_told l [] w e = absurd (cc)
 word_told l (f ∷ []) w e =
@@ -131,7 +130,7 @@ word_back l a_no_level (f ∷ g ∷ []) e =
 word_back l a_no_level (f ∷ g ∷ h ∷ fs) e = absurd (cc)
 
 -- what is read after each word
-abbrev Worded : ℕ → ℕ → VerdictWord → List Row → VerdictRead → Type 0
+abbrev pub Worded : ℕ → ℕ → VerdictWord → List Row → VerdictRead → Type 0
 Worded n count a_yes = Then (OneRow (IsMovesRow (codes "moves") n)) (λ ms. Nothing (record { verdict = yes ms; heads = [] }))
 Worded n count a_no_length = Then (Sides n count) (λ s. Nothing (record { verdict = no_length s.0.side s.1.side; heads = s.0.heads ++ s.1.heads }))
 Worded n count a_no_level = Then (Sides n count) (λ s. Then (IsLevelText n count) (λ ts. Nothing (record { verdict = no_level s.0.side s.1.side ts; heads = s.0.heads ++ s.1.heads })))
@@ -153,7 +152,7 @@ exact_worded n count h a_no_level =
     (exact_level n count h) (λ ts. exact_none (record { verdict = no_level s.0.side s.1.side ts; heads = s.0.heads ++ s.1.heads })))
 
 -- the rows from a verdict line on
-abbrev WordIs : Row → VerdictWord → Type 0
+abbrev pub WordIs : Row → VerdictWord → Type 0
 WordIs r w = r ≡ word_row w
 
 pub record IsVerdictRead (n count : ℕ) (rows : List Row) (v : VerdictRead) : Type 0 where
@@ -229,7 +228,7 @@ verdict_again n count after (no_level a b ts) heads s = record {
 }
 verdict_again n count after (undecided bound) heads s = absurd s
 
-verdict_is : (n count : ℕ) (rows : List Row) (v : VerdictRead) → Headed WordIs (Worded n count) rows v → IsVerdictRead n count rows v
+pub verdict_is : (n count : ℕ) (rows : List Row) (v : VerdictRead) → Headed WordIs (Worded n count) rows v → IsVerdictRead n count rows v
 verdict_is n count rows v s =
     let parts : rows ≡ word_row s.x ∷ s.later = s.parts ∙ ap (λ r. r ∷ s.later) s.one in
     subst (λ (rs : List Row). IsVerdictRead n count rs v) (sym parts) (verdict_there n count s.x s.later v s.two)
@@ -237,7 +236,7 @@ verdict_is n count rows v s =
 verdict_back : (n count : ℕ) (rows : List Row) (v : VerdictRead) → IsVerdictRead n count rows v → Headed WordIs (Worded n count) rows v
 verdict_back n count rows v s = subst (λ (rs : List Row). Headed WordIs (Worded n count) rs v) (sym s.parts) (verdict_again n count s.after v.verdict v.heads s.told)
 
-exact_verdict : (n count : ℕ) → n ≤ 26 → Exact (verdict_after n count) (IsVerdictRead n count)
+pub exact_verdict : (n count : ℕ) → n ≤ 26 → Exact (verdict_after n count) (IsVerdictRead n count)
 unfolding verdict_after
 exact_verdict n count h =
     exact_as (verdict_after n count) (Headed WordIs (Worded n count)) (IsVerdictRead n count) (verdict_is n count) (verdict_back n count)

@@ -10,33 +10,33 @@ use Rattle.wh_lines.specs.Lines.{Field, lines, are}
 use Rattle.wh_lines.specs.Readings.{◌>>=◌, refused_as}
 use Rattle.wh_lines.specs.Rows.{Row, number_row}
 use Rattle.wh_lines.specs.Laws.{kept_numbers}
-use Rattle.wh_lines.specs.KeptLines.{Kept, Rest, rest}
-use Rattle.wh_lines.specs.KeptLines.Rest.{line, bad_byte, end}
+use Rattle.wh_lines.specs.KeptLines.{Kept, rest}
+use Rattle.wh_lines.specs.KeptLines.Rest.{line, end}
 use Rattle.wh_lines.specs.LineReadings.{Reading, start, line_after, end_after, end_of}
 use Rattle.wh_lines.proofs.Equations.{bind_ok, ok_is, unless_ok, if_ok, not_more, is_not_more, are_is, refused_ok, no_fields}
 use Rattle.wh_lines.proofs.NextLines.{behind, line_told, line_there, end_told}
-use Rattle.wh_lines.proofs.RowReadings.{Tells, Passes, passes_split, passes_append}
-use Rattle.wh_lines.proofs.RestRows.{Holds, HaveRows, AllSome, holds_is, holds_back, rest_all_some, holds_passes, passes_hold, passes_one}
-use Rattle.wh_lines.proofs.ExactReadings.{Exact, Then, OneRow, Nothing, exact_then, exact_when, exact_line}
+use Rattle.wh_lines.proofs.RowReadings.{Passes, passes_split, passes_append}
+use Rattle.wh_lines.proofs.RestRows.{Holds, AllSome, holds_is, holds_back, rest_all_some, holds_passes, passes_hold, passes_one}
+use Rattle.wh_lines.proofs.ExactReadings.{Exact, Then, OneRow, exact_then, exact_when, exact_line}
 use Rattle.wh_text.specs.declared.command.Command.{Command}
 use Rattle.wh_text.specs.declared.command.Command.TheVariants as commands
 use Rattle.wh_text.specs.Limits.{most_answer_bytes}
 use Rattle.wh_text.specs.RankLines.{greatest_rank, rank_at, no_rank, rank_after}
-use Rattle.wh_text.specs.AnswerData.{SideData, VerdictData, AnswerData, CertificateData}
+use Rattle.wh_text.specs.AnswerData.{AnswerData, CertificateData}
 use Rattle.wh_text.specs.AnswerData.AnswerData.{reduce, decide}
 use Rattle.wh_text.specs.AnswerTexts.{heading_row, verdict_row, done_row}
-use Rattle.wh_text.specs.Certificates.{in_answer, SideRead, VerdictRead, AnswerRead, answer_with, command_at, heading_in, heading_after, done_after, with_end, answer_after, certificate}
+use Rattle.wh_text.specs.Certificates.{in_answer, AnswerRead, answer_with, command_at, heading_in, heading_after, done_after, with_end, answer_after, certificate}
 use Rattle.wh_text.specs.CertificateTexts.{IsTupleRow, IsLikeRow, IsSideText, IsVerdictText, IsAnswerText, IsCertificateText, ReadsCertificates}
 use Rattle.wh_text.proofs.RankLaws.{rank_within, rank_is, rank_back}
 use Rattle.wh_text.proofs.ExactLines.{same_row}
 use Rattle.wh_text.proofs.ExactAnswers.{one_then, then_one, alone, Reduced, Decided, Told, exact_told}
 
 -- ---- the heading
-abbrev command_word : Command → List ℕ
+abbrev pub command_word : Command → List ℕ
 command_word commands.Reduce = codes "reduce"
 command_word commands.Decide = codes "decide"
 
-abbrev HeadingIs : Row → Command → Type 0
+abbrev pub HeadingIs : Row → Command → Type 0
 HeadingIs r c = r ≡ heading_row (command_word c)
 
 command_told : (l : ℕ) (word : List ℕ) (c : Command) → command_at l word ≡ Ok c → word ≡ command_word c
@@ -70,7 +70,7 @@ heading_back l c (f ∷ g ∷ []) e =
     ap (λ v. cond (are v (codes "1")) (command_at l g.bytes) (Err (errors.BadLine l))) b ∙ ap (command_at l) d ∙ command_back l c
 heading_back l c (f ∷ g ∷ h ∷ fs) e = absurd (cc)
 
-exact_heading : Exact heading_after (OneRow HeadingIs)
+pub exact_heading : Exact heading_after (OneRow HeadingIs)
 unfolding heading_after
 exact_heading =
     exact_line (codes "whitehead") (λ k. heading_in k.number k.fields) HeadingIs
@@ -78,10 +78,10 @@ exact_heading =
     (λ r k c tells is. (ap (λ (x : Row). x.keyword) is, heading_back k.number c k.fields (tells.same ∙ ap (λ (x : Row). x.fields) is)))
 
 -- ---- the rank
-record RankIs (c : Command) (r : Row) (n : ℕ) : Type 0 where
-  spelled : r ≡ number_row (codes "rank") n
-  least : 1 ≤ n
-  most : n ≤ greatest_rank c
+pub record RankIs (c : Command) (r : Row) (n : ℕ) : Type 0 where
+  pub spelled : r ≡ number_row (codes "rank") n
+  pub least : 1 ≤ n
+  pub most : n ≤ greatest_rank c
 
 exact_plain : (c : Command) → Exact (λ p. line_after (codes "rank") p >>= λ k. rank_at c k.0.number k.0.fields >>= λ n. Ok (n, k.1)) (OneRow (RankIs c))
 exact_plain c =
@@ -97,7 +97,7 @@ refused_keep : {A B : Type 0} (change : ReadError → ReadError) (r : Result A R
 refused_keep change (Ok x) g y e = e
 refused_keep change (Err d) g y e = absurd (cc)
 
-exact_rank : (c : Command) → Exact (λ p. refused_as in_answer (rank_after c p)) (OneRow (RankIs c))
+pub exact_rank : (c : Command) → Exact (λ p. refused_as in_answer (rank_after c p)) (OneRow (RankIs c))
 unfolding rank_after
 exact_rank c =
     let next : Kept × Reading → Result (ℕ × Reading) ReadError = λ k. rank_at c k.0.number k.0.fields >>= λ n. Ok (n, k.1) in
@@ -110,10 +110,10 @@ exact_rank c =
 abbrev pub body : Reading → Result (AnswerRead × Reading) ReadError
 body p = heading_after p >>= λ c. refused_as in_answer (rank_after c.0 c.1) >>= λ n. answer_with c.0 n.0 n.1
 
-abbrev Body : List Row → AnswerRead → Type 0
+abbrev pub Body : List Row → AnswerRead → Type 0
 Body = Then (OneRow HeadingIs) (λ c. Then (OneRow (RankIs c)) (Told c))
 
-exact_body : Exact body Body
+pub exact_body : Exact body Body
 exact_body =
     exact_then heading_after (λ c. refused_as in_answer (rank_after c.0 c.1) >>= λ n. answer_with c.0 n.0 n.1) (OneRow HeadingIs) (λ c. Then (OneRow (RankIs c)) (Told c))
     exact_heading
@@ -152,7 +152,7 @@ told_there : (c : Command) (n : ℕ) (rows : List Row) (x : AnswerRead) → 1 �
 told_there commands.Reduce n rows x least most s = reduced_there n rows x least most s
 told_there commands.Decide n rows x least most s = decided_there n rows x least most s
 
-body_there : (rows : List Row) (x : AnswerRead) → Body rows x → IsAnswerText (rows ++ done_row ∷ []) x.answer x.heads
+pub body_there : (rows : List Row) (x : AnswerRead) → Body rows x → IsAnswerText (rows ++ done_row ∷ []) x.answer x.heads
 body_there rows x s =
     let h = one_then _ _ rows x s in
     let g = one_then _ _ h.later x h.two in
@@ -219,7 +219,7 @@ body_again rows (decide s t v) heads is = (
 )
 
 -- ---- the last line
-no_length_fields : (fs : List Field) → length fs ≡ 0 → map (λ f. f.bytes) fs ≡ []
+pub no_length_fields : (fs : List Field) → length fs ≡ 0 → map (λ f. f.bytes) fs ≡ []
 no_length_fields [] e = refl
 no_length_fields (f ∷ fs) e = absurd (omega (arith, e))
 

@@ -1,21 +1,20 @@
 -- The lines of a certificate are read exactly from what they tell: for the law on certificates.
-use Rattle.std.proofs.Common.{◌≡◌, ℕ, ◌+◌, ◌^◌, ◌<◌, ◌≤◌, ◌==◌, Bool, true, false, cond, List, [], ◌∷◌, ◌++◌, length, map, refl, sym, ap, ◌∙◌, subst, arith, append-nil, None, Some, Result, Ok, Err}
+use Rattle.std.proofs.Common.{◌≡◌, ℕ, ◌^◌, ◌<◌, ◌≤◌, ◌==◌, Bool, true, false, cond, List, [], ◌∷◌, ◌++◌, length, map, refl, sym, ap, ◌∙◌, subst, arith, append-nil, None, Some, Result, Ok, Err}
 use Rattle.std.specs.Prelude.{◌&&◌, leb, codes, decimal}
 use Rattle.std.specs.declared.option.Option.{Option}
-use Rattle.std.specs.List.{All}
 use Rattle.std.proofs.lemmas.Bool.{cond-true, eqb-true}
 use Rattle.std.proofs.lemmas.Bool.Decides.{nat_tests}
 use Rattle.wh_words.specs.Tuples.{TupleData}
 use Rattle.wh_words.specs.Moves.{Move, Kind}
 use Rattle.wh_lines.specs.declared.read_error.ReadError.{ReadError}
 use Rattle.wh_lines.specs.declared.read_error.ReadError.TheVariants as errors
-use Rattle.wh_lines.specs.Lines.{Field, are}
+use Rattle.wh_lines.specs.Lines.{Field}
 use Rattle.wh_lines.specs.Readings.{◌>>=◌, items_at, or_bad_line, refused_as}
 use Rattle.wh_lines.specs.Numbers.{number}
 use Rattle.wh_lines.specs.Rows.{Row, number_row}
 use Rattle.wh_lines.specs.KeptLines.{Kept}
 use Rattle.wh_lines.specs.LineReadings.{Reading, line_after, times}
-use Rattle.wh_lines.proofs.Equations.{bind_ok, ok_is, ok_same, if_ok, both_true, are_is, refused_ok}
+use Rattle.wh_lines.proofs.Equations.{bind_ok, ok_is, ok_same, if_ok, refused_ok}
 use Rattle.wh_lines.proofs.Scanning.{eq_true}
 use Rattle.wh_lines.proofs.FieldLaws.{AreSome}
 use Rattle.wh_lines.proofs.NumberLaws.{reads_numbers}
@@ -28,8 +27,7 @@ use Rattle.wh_fields.specs.Laws.{IsMoveField, IsFlowLine}
 use Rattle.wh_fields.proofs.TupleLaws.{tuple_is, tuple_back}
 use Rattle.wh_fields.proofs.MoveLaws.{reads_moves}
 use Rattle.wh_fields.proofs.FlowLaws.{reads_flows}
-use Rattle.wh_text.specs.Certificates.{in_answer, tuple_after, like_after, moves_after, flow_after, SideRead, side_with, side_after, within, number_in, level_after, VerdictWord, verdict_in}
-use Rattle.wh_text.specs.Certificates.VerdictWord.{a_yes, a_no_length, a_no_level}
+use Rattle.wh_text.specs.Certificates.{in_answer, tuple_after, like_after, moves_after, flow_after, SideRead, side_with, side_after, within, number_in, level_after}
 use Rattle.wh_text.specs.CertificateTexts.{IsTupleRow, IsLikeRow, AreMoveFields, IsMovesRow, IsFlowRow, IsSideText, IsLevelText}
 use Rattle.wh_words.specs.Limits.{most_level_tuples}
 
@@ -133,7 +131,7 @@ exact_flow n h =
     (λ r k d tells is. (is.0, ap (or_bad_line k.number) ((reads_flows n k.fields d h).1 (subst (λ (fs : List (List ℕ)). IsFlowLine n fs d) (sym tells.same) is.1))))
 
 -- ---- sides
-abbrev SideParts : ℕ → ℕ → List Row → SideRead → Type 0
+abbrev pub SideParts : ℕ → ℕ → List Row → SideRead → Type 0
 SideParts n count =
     Then (OneRow (IsMovesRow (codes "trace") n)) (λ ms.
     Then (OneRow (IsLikeRow (codes "end") n count)) (λ t.
@@ -142,7 +140,7 @@ SideParts n count =
 abbrev pub IsSideRead : ℕ → ℕ → List Row → SideRead → Type 0
 IsSideRead n count rows s = IsSideText n count rows s.side s.heads
 
-side_there : (n count : ℕ) (rows : List Row) (x : SideRead) → SideParts n count rows x → IsSideRead n count rows x
+pub side_there : (n count : ℕ) (rows : List Row) (x : SideRead) → SideParts n count rows x → IsSideRead n count rows x
 side_there n count rows x s =
     let t = s.two in
     let u = t.two in
@@ -245,10 +243,10 @@ number_row_back keyword least most r k n small tells is = (ap (λ (x : Row). x.k
         ∙ ap (or_bad_line k.number) (cond-true (leb least n && leb n most) (Some n) None (grind (arith, nat_tests, is.1, is.2)))
     by (f ∷ g ∷ fs) e = absurd (cc)
 
-abbrev SizeRow : Row → ℕ → Type 0
+abbrev pub SizeRow : Row → ℕ → Type 0
 SizeRow r size = (r ≡ number_row (codes "level") size) × (1 ≤ size) × (size ≤ most_level_tuples)
 
-level_there : (n count : ℕ) (rows : List Row) (ts : List TupleData) → Headed SizeRow (Rows (IsLikeRow (codes "at") n count)) rows ts → IsLevelText n count rows ts
+pub level_there : (n count : ℕ) (rows : List Row) (ts : List TupleData) → Headed SizeRow (Rows (IsLikeRow (codes "at") n count)) rows ts → IsLevelText n count rows ts
 level_there n count rows ts s = record {
   at_rows = s.later;
   parts = s.parts ∙ ap (λ r. r ∷ s.later) (s.one.0 ∙ ap (number_row (codes "level")) (sym s.two.count));

@@ -27,9 +27,9 @@ use Rattle.wh_text.specs.RankLines.{greatest_rank, rank_at, rank_number, no_rank
 use Rattle.wh_text.specs.AnswerData.{CertificateData}
 use Rattle.wh_text.specs.AnswerData.VerdictData.{yes, no_length, no_level}
 use Rattle.wh_text.specs.AnswerData.AnswerData.{reduce, decide}
-use Rattle.wh_text.specs.Certificates.{in_answer, tuple_after, like_after, moves_after, flow_after, SideRead, side_with, side_after, number_in, level_after, VerdictWord, verdict_in, VerdictRead, sides_after, verdict_with, verdict_after, AnswerRead, reduced_after, decided_after, answer_with, command_at, heading_in, heading_after, done_after, answer_after, certificate}
+use Rattle.wh_text.specs.Certificates.{in_answer, tuple_after, like_after, moves_after, flow_after, side_with, side_after, number_in, level_after, VerdictWord, verdict_in, sides_after, verdict_with, verdict_after, reduced_after, decided_after, answer_with, heading_in, heading_after, done_after, answer_after, certificate}
 use Rattle.wh_text.specs.Certificates.VerdictWord.{a_yes, a_no_length, a_no_level}
-use Rattle.wh_text.specs.CertificateTexts.{IsCertificateText, RefusesByFirstLines}
+use Rattle.wh_text.specs.CertificateTexts.{IsCertificateText}
 use Rattle.wh_text.proofs.ExactLines.{tell_like, after_shape}
 use Rattle.wh_text.proofs.ExactCertificates.{body, finish, answer_split, certified, answer_back}
 
@@ -81,10 +81,10 @@ refused_err : {A : Type 0} (r : Result A ReadError) (l m : ℕ) → ((d : ReadEr
 refused_err (Ok x) l m h e = absurd (cc)
 refused_err (Err d) l m h e = let at = h d refl in cc
 
-tuple_in : (n : ℕ) → InLine (λ k. refused_as in_answer (tuple_at n k.number k.fields))
+pub tuple_in : (n : ℕ) → InLine (λ k. refused_as in_answer (tuple_at n k.number k.fields))
 tuple_in n k l e = refused_err (tuple_at n k.number k.fields) l k.number (λ d h. tuple_err n k.number k.fields d h) e
 
-like_in : (n count : ℕ) → InLine (tell_like n count)
+pub like_in : (n count : ℕ) → InLine (tell_like n count)
 unfolding tell_like
 like_in n count k l e = elim (bind_err (refused_as in_answer (tuple_at n k.number k.fields)) (λ t. cond (length t.words == count) (Ok t) (Err (errors.BadLine k.number))) (errors.BadLine l) e) [
   | inl w ↦ tuple_in n k l w
@@ -107,11 +107,12 @@ local_like l keyword n count =
     (local_line l keyword (tell_like n count) (like_in n count))
 
 -- ---- moves and flows
+pub moves_in : (n : ℕ) → InLine (λ k. items_at (move_at n k.number) k.fields)
+moves_in n k m e = items_err (λ d. d ≡ errors.BadLine m → k.number ≡ m) (move_at n k.number) (λ f d h same. bad_line_is k.number m (move_with n (kind_in n f.bytes)) (h ∙ ap (λ x. Err x) same)) k.fields (errors.BadLine m) e refl
+
 local_moves : (l : ℕ) (keyword : List ℕ) (n : ℕ) → Local l (moves_after keyword n)
 unfolding moves_after
-local_moves l keyword n =
-    local_line l keyword (λ k. items_at (move_at n k.number) k.fields)
-    (λ k m e. items_err (λ d. d ≡ errors.BadLine m → k.number ≡ m) (move_at n k.number) (λ f d h same. bad_line_is k.number m (move_with n (kind_in n f.bytes)) (h ∙ ap (λ x. Err x) same)) k.fields (errors.BadLine m) e refl)
+local_moves l keyword n = local_line l keyword (λ k. items_at (move_at n k.number) k.fields) (moves_in n)
 
 local_flow : (l n : ℕ) → Local l (flow_after n)
 unfolding flow_after
@@ -147,7 +148,7 @@ bad_unless : {A : Type 0} (t : Bool) (m l : ℕ) → ◌≡◌ {A = Result A Rea
 bad_unless true m l e = absurd (cc)
 bad_unless false m l e = cc
 
-verdict_in_line : (m l : ℕ) (fs : List Field) → verdict_in m fs ≡ Err (errors.BadLine l) → m ≡ l
+pub verdict_in_line : (m l : ℕ) (fs : List Field) → verdict_in m fs ≡ Err (errors.BadLine l) → m ≡ l
 unfolding verdict_in
 verdict_in_line m l [] e = cc
 verdict_in_line m l (f ∷ []) e = bad_if (are f.bytes (codes "yes")) a_yes m l e
@@ -198,7 +199,7 @@ local_told l commands.Reduce n = local_reduced l n
 local_told l commands.Decide n = local_decided l n
 
 -- ---- the heading and the rank
-heading_in_line : (m l : ℕ) (fs : List Field) → heading_in m fs ≡ Err (errors.BadLine l) → m ≡ l
+pub heading_in_line : (m l : ℕ) (fs : List Field) → heading_in m fs ≡ Err (errors.BadLine l) → m ≡ l
 heading_in_line m l [] e = cc
 heading_in_line m l (f ∷ []) e = cc
 heading_in_line m l (f ∷ g ∷ []) e = by (are f.bytes (codes "1")) (are g.bytes (codes "reduce")) (are g.bytes (codes "decide")) e
@@ -214,7 +215,7 @@ local_heading : (l : ℕ) → Local l heading_after
 unfolding heading_after
 local_heading l = local_line l (codes "whitehead") (λ k. heading_in k.number k.fields) (λ k m e. heading_in_line k.number m k.fields e)
 
-rank_in_line : (c : Command) (m l : ℕ) (fs : List Field) → refused_as in_answer (rank_at c m fs) ≡ Err (errors.BadLine l) → m ≡ l
+pub rank_in_line : (c : Command) (m l : ℕ) (fs : List Field) → refused_as in_answer (rank_at c m fs) ≡ Err (errors.BadLine l) → m ≡ l
 rank_in_line c m l [] e = cc
 rank_in_line c m l (f ∷ []) e = by (number f.bytes) e
   where
@@ -234,7 +235,7 @@ ranked p n = Ok (n, p)
 abbrev here : List ℕ → Kept → Rest → Result (Kept × Reading) ReadError
 here taken k later = Ok (k, record { taken = taken ++ k.number ∷ []; rest = later })
 
-rank_shape : (c : Command) (taken : List ℕ) (r : Rest) →
+pub rank_shape : (c : Command) (taken : List ℕ) (r : Rest) →
     refused_as in_answer (refused_as no_rank (line_of (codes "rank") taken r) >>= λ k. rank_at c k.0.number k.0.fields >>= ranked k.1) ≡ (line_of (codes "rank") taken r >>= λ k. refused_as in_answer (rank_at c k.0.number k.0.fields) >>= ranked k.1)
 rank_shape c taken (line k later) = by (are k.keyword (codes "rank"))
   where
@@ -294,7 +295,7 @@ alike_refused l r s x (went y z same h) e f = absurd (cc)
 alike_refused l r s x (refused c d) e f = absurd (cc)
 alike_refused l r s x (past _ _ h) e f = past_not l r h e
 
-refused_answer : (bytes : List ℕ) (l : ℕ) → certificate bytes ≡ Err (errors.BadLine l) → answer_after (start bytes) ≡ Err (errors.BadLine l)
+pub refused_answer : (bytes : List ℕ) (l : ℕ) → certificate bytes ≡ Err (errors.BadLine l) → answer_after (start bytes) ≡ Err (errors.BadLine l)
 unfolding certificate
 refused_answer bytes l e = by (ltb most_answer_bytes (length bytes)) e
   where
@@ -305,7 +306,9 @@ refused_answer bytes l e = by (ltb most_answer_bytes (length bytes)) e
       | inr s ↦ (let never = s.2 in absurd (cc))
     ]
 
-pub refuses_by_first_lines : RefusesByFirstLines
+-- no text with the same l first lines is a certificate
+pub refuses_by_first_lines : (bytes other : List ℕ) (front after others : List (List ℕ)) → certificate bytes ≡ Err (errors.BadLine (length front)) →
+    lines bytes ≡ front ++ after → lines other ≡ front ++ others → (c : CertificateData) → IsCertificateText other c → ⊥
 refuses_by_first_lines bytes other front after others e same more c is =
     let l = length front in
     let agree : Agree l (rest 1 (lines bytes)) (rest 1 (lines other)) =

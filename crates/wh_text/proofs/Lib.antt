@@ -13,3 +13,6 @@ pub mod ExactCertificates
 pub mod ExactLines
 pub mod ExactAnswers
 pub mod FirstLines
+pub mod CompletedLines
+pub mod CompletedAnswers
+pub mod FirstBadLines

@@ -1,5 +1,5 @@
 -- Which texts are certificates, in the words of what is written.
-use Rattle.std.specs.Prelude.{◌≡◌, ◌↔◌, ℕ, ◌≤◌, List, [], ◌∷◌, ◌++◌, length, map, Ok, Err, codes}
+use Rattle.std.specs.Prelude.{◌≡◌, ◌↔◌, ℕ, ◌+◌, ◌≤◌, List, [], ◌∷◌, ◌++◌, length, map, Ok, Err, codes}
 use Rattle.std.specs.List.{All, sum_by}
 use Rattle.wh_words.specs.Limits.{most_rank, most_level_rank, most_words, most_letters, most_level_tuples}
 use Rattle.wh_words.specs.Words.{IsOfRank}
@@ -116,8 +116,29 @@ pub record IsCertificateText (bytes : List ℕ) (c : CertificateData) : Type 0 w
 abbrev pub ReadsCertificates : Type 0
 ReadsCertificates = (bytes : List ℕ) (c : CertificateData) → (certificate bytes ≡ Ok c) ↔ ((length bytes ≤ most_answer_bytes) × IsCertificateText bytes c)
 
--- What is refused as line l is refused by the lines up to it: no text with the same l first lines is a certificate, whatever its size.
-abbrev pub RefusesByFirstLines : Type 0
-RefusesByFirstLines =
-    (bytes other : List ℕ) (front after others : List (List ℕ)) → certificate bytes ≡ Err (errors.BadLine (length front)) →
-    lines bytes ≡ front ++ after → lines other ≡ front ++ others → (c : CertificateData) → IsCertificateText other c → ⊥
+-- ---- the first bad line
+-- These are the first lines of some certificate, whatever its size.
+pub record BeginACertificate (ls : List (List ℕ)) : Type 0 where
+  pub text : List ℕ
+  pub after : List (List ℕ)
+  pub parts : lines text ≡ ls ++ after
+  pub c : CertificateData
+  pub is : IsCertificateText text c
+
+-- No certificate begins with the lines before and the line that follows them, whatever its size; where none follows, no certificate has the lines before alone.
+abbrev pub NoneGoesOn : List (List ℕ) → List (List ℕ) → Type 0
+NoneGoesOn before [] = (text : List ℕ) (c : CertificateData) → lines text ≡ before → IsCertificateText text c → ⊥
+NoneGoesOn before (line ∷ after) = BeginACertificate (before ++ line ∷ []) → ⊥
+
+-- Line l is the first that no certificate with the lines before it has; or it is the place past the end, where a certificate goes on and the text doesn't.
+pub record IsFirstBadLine (bytes : List ℕ) (l : ℕ) : Type 0 where
+  pub before : List (List ℕ)
+  pub from_it : List (List ℕ)
+  pub parts : lines bytes ≡ before ++ from_it
+  pub line : l ≡ length before + 1
+  pub goes_on : BeginACertificate before
+  pub stops : NoneGoesOn before from_it
+
+-- A refusal of a line names the first bad one.
+abbrev pub NamesTheFirstBadLine : Type 0
+NamesTheFirstBadLine = (bytes : List ℕ) (l : ℕ) → certificate bytes ≡ Err (errors.BadLine l) → IsFirstBadLine bytes l

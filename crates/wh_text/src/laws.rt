@@ -1,6 +1,6 @@
 //! Laws of reading, each the contract of an empty function.
 ghost use Rattle.wh_text.specs.ReadingBack.{ReadsBack};
-ghost use Rattle.wh_text.specs.CertificateTexts.{ReadsCertificates, RefusesByFirstLines};
+ghost use Rattle.wh_text.specs.CertificateTexts.{ReadsCertificates, NamesTheFirstBadLine};
 ghost use Rattle.wh_text.specs.Laws.{ReadsReduceTexts, ReadsDecideTexts, NamesTheFirstBadByte, CountsRows};
 
 /// A text is accepted exactly where it is spelled as a problem of `reduce`.
@@ -33,7 +33,9 @@ pub fn certificates()
     ensures { ReadsCertificates }
 {}
 
-/// A text that is refused at a line is refused by the lines up to it: none with these first lines is a certificate.
+/// A text that is refused at a line is refused at the first that no certificate with the lines before it has: some
+/// certificate has those lines, and none has this line after them. Where the text ends too early, this is the place past
+/// the end.
 pub fn refused_lines()
-    ensures { RefusesByFirstLines }
+    ensures { NamesTheFirstBadLine }
 {}

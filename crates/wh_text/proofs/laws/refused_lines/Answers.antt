@@ -1,5 +1,5 @@
-use Rattle.wh_text.proofs.FirstLines.{refuses_by_first_lines}
+use Rattle.wh_text.proofs.FirstBadLines.{names_the_first_bad_line}
 use Rattle.wh_text.proofs.laws.refused_lines.Goals as goal
 
 pub returns : goal.returns
-returns c = refuses_by_first_lines
+returns c = names_the_first_bad_line
