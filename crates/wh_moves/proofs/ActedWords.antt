@@ -5,10 +5,10 @@ use Rattle.std.proofs.lemmas.List.Sums.{sum_by_push, sum_by-cons}
 use Rattle.std.specs.List.{sum_by}
 use Rattle.wh_words.specs.CyclicWords.{cyclic_word}
 use Rattle.wh_words.specs.Tuples.{TupleData, Tuple, IsTuple, tuple_length, own_room, with_word, in_rooms_of}
-use Rattle.wh_words.specs.Moves.{Move}
+use Rattle.wh_words.specs.Moves.{Kind, Move}
 use Rattle.wh_words.specs.Action.{substitute, act}
 use Rattle.wh_words.specs.Images.{swap_letter, invert_letter}
-use Rattle.wh_words.specs.Moves.Kind.{swap, invert}
+use Rattle.wh_words.specs.Moves.Kind.{swap, invert, cut}
 use Rattle.wh_words.proofs.Mapped.{swap_image, invert_image}
 use Rattle.wh_words.proofs.CutImages.{least_length}
 use Rattle.wh_words.proofs.ImageLetters.{image_sum}
@@ -61,6 +61,10 @@ pub image_more : (t : TupleData) (m : Move) (into new start : Tuple) (i : ℕ) (
 image_more t m into new start i w h e is n =
     n ∙ ap (λ (u : Tuple). with_word u (cyclic_word (substitute m.kind w))) is
     ∙ ap (λ (ws : List (List ℕ)). in_rooms_of start (record { rank = m.rank; words = ws })) (sym (acted_more t m i w h e))
+
+-- A cut acts by its kind alone.
+pub cut_acts : (t : TupleData) (m : Move) (n a set : ℕ) → cut a set ≡ m.kind → act t (record { rank = n; kind = cut a set }) ≡ act t m
+cut_acts t m n a set e = ap (λ (k : Kind). record { rank = t.rank; words = map (λ w. cyclic_word (substitute k w)) t.words }) e
 
 -- ---- lengths
 pub length_more : (t : TupleData) (m : Move) (i total : ℕ) (w : List ℕ) → i < length t.words → w ≡ get_or t.words i [] → total ≡ tuple_length (acted t m i) →

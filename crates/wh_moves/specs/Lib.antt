@@ -1,4 +1,6 @@
 pub mod Kinds
+pub mod Packing
+pub mod MoveOrders
 pub mod Acts
 pub mod Laws
 -- The definitions of the theory, for the crates above.

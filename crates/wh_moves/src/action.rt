@@ -52,10 +52,9 @@ fn push_image(into: &mut Tuple, word: &[Letter], m: &Move)
     }
 }
 
-/// Makes `into` the tuple after a move of its rank, and keeps its rooms, in which the new tuple has to fit. It takes no
-/// memory, and its time is linear in the letters (Lyndon and Schupp, I.4).
+/// Makes `into` the tuple after a move, word by word.
 #[tactic(auto, using(crate::proofs::ActedWords::image_fits, crate::proofs::ActedWords::image_place, crate::proofs::ActedWords::image_more))]
-pub fn act_into(tuple: &Tuple, m: &Move, into: &mut Tuple)
+fn act_by_words(tuple: &Tuple, m: &Move, into: &mut Tuple)
     requires rank { tuple.now.plain.rank ≡ m.now.rank }
     requires short { Fits (spec.act tuple.now.plain m.now) }
     requires room { tuple_length (spec.act tuple.now.plain m.now) ≤ into.old.room }
@@ -65,6 +64,23 @@ pub fn act_into(tuple: &Tuple, m: &Move, into: &mut Tuple)
     into.clear(m.rank());
     for place in 0..tuple.count() {
         push_image(into, tuple.word(place), m);
+    }
+}
+
+/// Makes `into` the tuple after a move of its rank, and keeps its rooms, in which the new tuple has to fit. It takes no
+/// memory, and its time is linear in the letters (Lyndon and Schupp, I.4). Nearly all moves of a level are cuts, so these
+/// go over all words at once.
+#[tactic(auto, using(crate::proofs::ActedWords::cut_acts))]
+pub fn act_into(tuple: &Tuple, m: &Move, into: &mut Tuple)
+    requires rank { tuple.now.plain.rank ≡ m.now.rank }
+    requires short { Fits (spec.act tuple.now.plain m.now) }
+    requires room { tuple_length (spec.act tuple.now.plain m.now) ≤ into.old.room }
+    requires word_room { length tuple.now.plain.words ≤ into.old.word_room }
+    ensures { into.new ≡ in_rooms_of into.old (spec.act tuple.now.plain m.now) }
+{
+    match m.kind() {
+        Kind::Cut { mult, set } => into.become_cut(tuple, mult, set),
+        Kind::Swap(_) | Kind::Invert(_) => act_by_words(tuple, m, into),
     }
 }
 

@@ -10,6 +10,7 @@ pub mod PassRound
 pub mod ImageLetters
 pub mod CutImages
 pub mod Storing
+pub mod CutRows
 pub mod Mapped
 pub mod MadeOfCyclic
 pub mod MadeOfReduced

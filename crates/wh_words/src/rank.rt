@@ -34,6 +34,15 @@ impl Rank {
         }
     }
 
+    /// The rank of a number from 1 to 26.
+    pub fn of_number(number: u8) -> Rank
+        requires least { 0 < number }
+        requires greatest { number ≤ 26 }
+        ensures { result ≡ number }
+    {
+        Rank { number }
+    }
+
     /// The rank as a number.
     pub fn get(self) -> u8
         ensures same { result ≡ self }

@@ -17,8 +17,9 @@ impl PartialEq for Tuple {
 
     ghost laws = { Prim.search (comparing, tuple_order_total, rules) };
 
+    #[tactic(auto, using(crate::proofs::SameTuples::same_is_tied))]
     fn eq(&self, other: &Tuple) -> bool {
-        self.compared(other).is_eq()
+        self.same(other)
     }
 }
 
