@@ -1,6 +1,4 @@
 pub mod Judging
-pub mod ListedTuples
-pub mod Complements
 pub mod Staying
 pub mod Flowing
 pub mod Carried

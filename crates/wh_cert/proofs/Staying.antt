@@ -14,8 +14,9 @@ use Rattle.wh_moves.proofs.IdentityCuts.{identity_acts}
 use Rattle.wh_graph.proofs.LevelMoves.{level_cut}
 use Rattle.wh_graph.proofs.ComplementCuts.{generator_of, complement, complement_flips, complement_cut}
 use Rattle.wh_cert.specs.Demands.{ImagesAreIn}
-use Rattle.wh_cert.specs.Listings.{HaveSameTuples, StaysIn, SwapsStay, InversionsStay, CutsStay}
-use Rattle.wh_cert.proofs.Complements.{turned_acts}
+use Rattle.wh_sets.specs.TupleSets.{HaveSameTuples}
+use Rattle.wh_cert.specs.Listings.{StaysIn, SwapsStay, InversionsStay, CutsStay}
+use Rattle.wh_words.proofs.Complements.{turned_acts}
 
 -- ---- one after another
 pub next_before : (P : ℕ → Type 0) (k : ℕ) → ((j : ℕ) → j < k → P j) → P k → (j : ℕ) → j < k + 1 → P j

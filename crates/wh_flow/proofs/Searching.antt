@@ -7,9 +7,9 @@ use Rattle.std.proofs.lemmas.Nat.Bits.{bit_at_and, bit_at_ones, bit_at_ones_abov
 use Rattle.wh_words.specs.LetterSets.{in_set}
 use Rattle.wh_words.specs.Flows.{IsWithin}
 use Rattle.wh_flow.specs.Nets.{cell}
-use Rattle.wh_flow.specs.Searches.{room, unseen, Grew, IsOfLetters, IsSearched, IsSearching}
+use Rattle.wh_flow.specs.Searches.{residual, unseen, Grew, IsOfLetters, IsSearched, IsSearching}
 use Rattle.wh_flow.proofs.Sums.{sum-le, sum-less}
-use Rattle.wh_flow.proofs.Pushes.{past_no_room}
+use Rattle.wh_flow.proofs.Pushes.{past_no_residual}
 
 -- ---- sets of seen letters
 pub grew_fewer : (old new : ℕ) → Grew old new → unseen new ≤ unseen old
@@ -71,7 +71,7 @@ module _ (cap flow : List ℕ) (old : ℕ) (from v t : ℕ) where
     ];
   }
 
-  pub searching_skips : (now : ℕ) (y : ℕ) → IsSearching cap flow old now from v t y → (room cap flow from v y ≡ 0) ⊎ (in_set now y ≡ true) → IsSearching cap flow old now from v t (y + 1)
+  pub searching_skips : (now : ℕ) (y : ℕ) → IsSearching cap flow old now from v t y → (residual cap flow from v y ≡ 0) ⊎ (in_set now y ≡ true) → IsSearching cap flow old now from v t (y + 1)
   searching_skips now y s e = record {
     start = s.start;
     omits = s.omits;
@@ -83,11 +83,11 @@ module _ (cap flow : List ℕ) (old : ℕ) (from v t : ℕ) where
     least = s.least;
   }
     where
-      either : (z : ℕ) → z ≡ y → 0 < room cap flow from v z → (room cap flow from v y ≡ 0) ⊎ (in_set now y ≡ true) → in_set now z ≡ true
-      either z k r (inl none) = absurd (omega (arith, r, ap (room cap flow from v) k, none))
+      either : (z : ℕ) → z ≡ y → 0 < residual cap flow from v z → (residual cap flow from v y ≡ 0) ⊎ (in_set now y ≡ true) → in_set now z ≡ true
+      either z k r (inl none) = absurd (omega (arith, r, ap (residual cap flow from v) k, none))
       either z k r (inr b) = ap (in_set now) k ∙ b
 
-  pub searching_more : (now next : ℕ) (y : ℕ) → v < 52 → y < 52 → IsSearching cap flow old now from v t y → 0 < room cap flow from v y → in_set now y ≡ false
+  pub searching_more : (now next : ℕ) (y : ℕ) → v < 52 → y < 52 → IsSearching cap flow old now from v t y → 0 < residual cap flow from v y → in_set now y ≡ false
       → Grew now next → IsSearched cap flow now next from y t → IsSearching cap flow old next from v t (y + 1)
   searching_more now next y lv ly s rm ny grew q = record {
     start = grew v s.start;
@@ -111,14 +111,14 @@ module _ (cap flow : List ℕ) (old : ℕ) (from v t : ℕ) where
     start = s.start;
     omits = s.omits;
     shut = λ x h n m z i r. elim (cases_eq x v) [
-      | inl e ↦ row z i (subst (λ (k : ℕ). 0 < room cap flow from k z) e r)
+      | inl e ↦ row z i (subst (λ (k : ℕ). 0 < residual cap flow from k z) e r)
       | inr e ↦ s.shut x h e n m z i r
     ];
     least = s.least;
   }
     where
-      row : (z : ℕ) → z < 52 → 0 < room cap flow from v z → in_set now z ≡ true
+      row : (z : ℕ) → z < 52 → 0 < residual cap flow from v z → in_set now z ≡ true
       row z i r = elim (cases_lt z letters) [
         | inl l ↦ s.row z l i r
-        | inr l ↦ absurd (omega (arith, r, past_no_room letters cap flow from v z o w lv i (omega (arith, l))))
+        | inr l ↦ absurd (omega (arith, r, past_no_residual letters cap flow from v z o w lv i (omega (arith, l))))
       ]

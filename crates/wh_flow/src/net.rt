@@ -1,5 +1,6 @@
 //! Networks: how many edges join each two letters.
 ghost use Rattle.std.specs.Prelude.{◌≡◌, ◌≢◌, ℕ, ◌+◌, ◌*◌, ◌<◌, ◌≤◌, cond, length, replicate};
+ghost use Rattle.wh_words.specs.Limits.{most_letters};
 ghost use Rattle.wh_words.specs.Edges.{joins};
 ghost use Rattle.wh_flow.specs.Nets.{cell, edge_count, IsNet};
 ghost use Rattle.wh_flow.specs.Searches.{IsOfLetters};
@@ -61,7 +62,7 @@ impl Net {
         requires apart { x ≢ y }
         requires x_of_rank { x < 2 * self.old.rank }
         requires y_of_rank { y < 2 * self.old.rank }
-        requires few { edge_count self.old.cells < 4096 }
+        requires few { edge_count self.old.cells < most_letters }
         ensures rank { self.new.rank ≡ self.old.rank }
         ensures edge { (u v : ℕ) → u < 52 → v < 52 → cell self.new.cells u v ≡ cell self.old.cells u v + cond (joins u v (x, y)) 1 0 }
         ensures count { edge_count self.new.cells ≡ edge_count self.old.cells + 1 }
@@ -93,8 +94,8 @@ fn write_edge(cells: &mut [u32], x: usize, y: usize)
     requires y_within { y < 52 }
     requires apart { x ≢ y }
     requires size { length cells.old ≡ 2704 }
-    requires low { cell cells.old x y ≤ 4096 }
-    requires low_back { cell cells.old y x ≤ 4096 }
+    requires low { cell cells.old x y ≤ most_letters }
+    requires low_back { cell cells.old y x ≤ most_letters }
     ensures size { length cells.new ≡ 2704 }
     ensures edge { (u v : ℕ) → u < 52 → v < 52 → cell cells.new u v ≡ cell cells.old u v + cond (joins u v (x, y)) 1 0 }
 {

@@ -8,7 +8,7 @@ ghost use Rattle.wh_flow.specs.Searches.{IsOfLetters, Grew, IsSearched, IsLed};
 
 use crate::flow::Flow;
 use crate::net::Net;
-use crate::search::{is_seen, mark, room_of};
+use crate::search::{is_seen, mark, residual_capacity};
 use wh_words::{Letter, LetterSet};
 
 /// The letters that residual edges lead to from a letter of the rank: the least closed set that holds it (Picard and
@@ -71,8 +71,8 @@ fn visit(cap: &[u32], flow: &[u32], letters: usize, seen: &mut LetterSet, v: usi
     mark(seen, v);
     for y in 0..letters {
         if !is_seen(*seen, y) {
-            let room = room_of(cap, flow, 0, v, y);
-            if room > 0 {
+            let residual = residual_capacity(cap, flow, 0, v, y);
+            if residual > 0 {
                 visit(cap, flow, letters, seen, y);
             }
         }

@@ -4,7 +4,7 @@ ghost use Rattle.std.specs.Int.{bit_at};
 ghost use Rattle.wh_words.specs.LetterSets.{in_set};
 ghost use Rattle.wh_words.specs.Flows.{IsWithin};
 ghost use Rattle.wh_flow.specs.Nets.{cell};
-ghost use Rattle.wh_flow.specs.Searches.{IsOfLetters, room, goes_back, unseen, Grew, IsShifted, IsPushed, IsSearched};
+ghost use Rattle.wh_flow.specs.Searches.{IsOfLetters, residual, goes_back, unseen, Grew, IsShifted, IsPushed, IsSearched};
 
 use wh_words::{Letter, LetterSet};
 
@@ -48,9 +48,9 @@ impl Search {
         mark(seen, v);
         for y in 0..self.letters {
             if !is_seen(*seen, y) {
-                let room = room_of(cap, flow, self.from, v, y);
-                if room > 0 {
-                    let d = self.push(cap, flow, seen, y, lesser(limit, room));
+                let residual = residual_capacity(cap, flow, self.from, v, y);
+                if residual > 0 {
+                    let d = self.push(cap, flow, seen, y, lesser(limit, residual));
                     if d > 0 {
                         shift(cap, flow, self.from, v, y, d);
                         return d;
@@ -79,14 +79,14 @@ pub(crate) fn mark(seen: &mut LetterSet, x: usize)
     *seen = seen.with(Letter::of_index(x as u8));
 }
 
-/// How much more can go from `x` to `y`.
-pub(crate) fn room_of(cap: &[u32], flow: &[u32], from: usize, x: usize, y: usize) -> u32
+/// The residual capacity from `x` to `y`, at pairs from a place on: how much more can go.
+pub(crate) fn residual_capacity(cap: &[u32], flow: &[u32], from: usize, x: usize, y: usize) -> u32
     requires cap { length cap.now ≡ 2704 }
     requires flow { length flow.now ≡ 2704 }
     requires x_within { x < 52 }
     requires y_within { y < 52 }
     requires within { IsWithin (cell cap.now) (cell flow.now) }
-    ensures { result ≡ room cap.now flow.now from x y }
+    ensures { result ≡ residual cap.now flow.now from x y }
 {
     if is_back(flow, from, x, y) {
         flow[52 * y + x]
@@ -104,7 +104,7 @@ fn shift(cap: &[u32], flow: &mut [u32], from: usize, x: usize, y: usize, d: u32)
     requires x_within { x < 52 }
     requires y_within { y < 52 }
     requires some { 0 < d }
-    requires fits { d ≤ room cap.now flow.old from x y }
+    requires fits { d ≤ residual cap.now flow.old from x y }
     requires within { IsWithin (cell cap.now) (cell flow.old) }
     ensures size { length flow.new ≡ 2704 }
     ensures shifted { IsShifted cap.now flow.old flow.new from x y d }

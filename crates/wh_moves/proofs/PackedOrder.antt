@@ -2,10 +2,12 @@
 use Rattle.std.proofs.Common.{◌≡◌, ℕ, zero, suc, ◌+◌, ◌-◌, ◌*◌, ◌/◌, ◌%◌, ◌^◌, ◌<◌, ◌≤◌, refl, sym, ap, ◌∙◌, subst, arith}
 use Rattle.std.proofs.lemmas.Bool.Decides.{nat_tests}
 use Rattle.std.proofs.lemmas.Cmp.{by_ranked, ranked}
+use Rattle.std.specs.Cmp.{nat_cmp_is}
 use Rattle.std.specs.Ordering.{nat_cmp, ordering_then}
 use Rattle.std.specs.declared.cmp.Ordering.{Ordering}
 use Rattle.std.specs.declared.cmp.Ordering.TheVariants.{Less, Equal, Greater}
 use Rattle.std.proofs.Math.Nat.{pow-le-pow_right}
+use Rattle.wh_words.specs.Limits.{most_rank}
 use Rattle.wh_words.specs.Letters.{inverse_letter}
 use Rattle.wh_words.specs.Moves.{Kind, Move, IsMove, IsKind, IsCut, kind_cmp, move_cmp, inverse_kind, inverse_move, turned_set}
 use Rattle.wh_moves.proofs.InverseMoves.{inverse_is_kind, inverse_is_move}
@@ -13,10 +15,10 @@ use Rattle.wh_words.specs.Moves.Kind.{swap, invert, cut}
 use Rattle.wh_moves.specs.Packing.{kind_of_code, unpacked}
 
 less_is : (a b : ℕ) → a < b → nat_cmp a b ≡ Less
-less_is a b h = grind arith
+less_is a b h = sym (nat_cmp_is a b Less h)
 
 more_is : (a b : ℕ) → b < a → nat_cmp a b ≡ Greater
-more_is a b h = grind (arith, nat_tests)
+more_is a b h = sym (nat_cmp_is a b Greater h)
 
 first_less : (a b : ℕ) (o : Ordering) → a < b → Less ≡ ordering_then (nat_cmp a b) o
 first_less a b o h = sym (ap (λ p. ordering_then p o) (less_is a b h))
@@ -45,12 +47,9 @@ parts k a b p q r s e f less more below above =
     (λ o h. less_is a b (less h) ∙ sym (ap (λ x. ordering_then x (nat_cmp r s)) o))
     (λ o h. by_ranked (r < s) (r ≡ s) (s < r) (nat_cmp r s) (ranked r s (nat_cmp r s) refl)
     (λ u l. less_is a b (below h l) ∙ sym (ap (λ x. ordering_then x (nat_cmp r s)) o ∙ u))
-    (λ u l. ap (λ x. nat_cmp x b) (e ∙ ap (λ x. x * k + r) h ∙ ap (λ x. q * k + x) l ∙ sym f) ∙ ties b ∙ sym (ap (λ x. ordering_then x (nat_cmp r s)) o ∙ u))
+    (λ u l. ap (λ x. nat_cmp x b) (e ∙ ap (λ x. x * k + r) h ∙ ap (λ x. q * k + x) l ∙ sym f) ∙ sym (nat_cmp_is b b Equal refl) ∙ sym (ap (λ x. ordering_then x (nat_cmp r s)) o ∙ u))
     (λ u l. more_is a b (above h l) ∙ sym (ap (λ x. ordering_then x (nat_cmp r s)) o ∙ u)))
     (λ o h. more_is a b (more h) ∙ sym (ap (λ x. ordering_then x (nat_cmp r s)) o))
-  where
-    ties : (b : ℕ) → nat_cmp b b ≡ Equal
-    ties b = grind (arith, nat_tests)
 
 by_units : (a b : ℕ) → nat_cmp a b ≡ ordering_then (nat_cmp (a / 2 ^ 52) (b / 2 ^ 52)) (nat_cmp (a % 2 ^ 52) (b % 2 ^ 52))
 by_units a b =
@@ -110,7 +109,7 @@ rank_least n (invert k) h = omega (arith, h)
 rank_least n (cut a set) h = omega (arith, h.of_rank)
 
 -- ---- sets
-pub mask_fits : (n a set : ℕ) → IsCut n a set → n ≤ 26 → set < 2 ^ 52
+pub mask_fits : (n a set : ℕ) → IsCut n a set → n ≤ most_rank → set < 2 ^ 52
 mask_fits n a set h l =
     let two : 0 < 2 = omega arith in
     let most : 2 * n ≤ 52 = omega arith in

@@ -1,8 +1,8 @@
 //! The action of a move on a tuple of cyclic words.
 ghost use Rattle.std.specs.Prelude.{◌≡◌, ◌≤◌, length, IfOk, IfErr};
-ghost use Rattle.wh_words.specs.Words.{IsOfRank};
+ghost use Rattle.wh_words.specs.Limits.{most_letters};
 ghost use Rattle.wh_words.specs.CyclicWords.{cyclic_word};
-ghost use Rattle.wh_words.specs.Tuples.{tuple_length, own_room, with_word, HasLetterRoom, HasWordRoom, in_rooms_of};
+ghost use Rattle.wh_words.specs.Tuples.{tuple_length, own_room, in_rooms_of};
 ghost use Rattle.wh_words.specs.Action as spec;
 ghost use Rattle.wh_words.specs.Action.{substitute};
 ghost use Rattle.wh_moves.specs.Acts.{Fits, IsActFault};
@@ -10,10 +10,7 @@ ghost use Rattle.wh_moves.specs.Acts.{Fits, IsActFault};
 use crate::moves::{Kind, Move};
 use std::alloc::Global;
 use thiserror::Error;
-use wh_words::{Letter, OutOfMemory, Tuple, cut_image_length};
-
-/// The greatest number of letters of a tuple.
-pub(crate) const MOST_LETTERS: u32 = 4096;
+use wh_words::{Letter, MOST_LETTERS, OutOfMemory, Tuple, cut_image_length};
 
 /// Why a move can't be made.
 #[derive(Debug, Drop, PartialEq, Eq, Error)]
@@ -36,41 +33,9 @@ impl From<OutOfMemory> for ActError {
     }
 }
 
-/// Writes the image of a cyclic word after the words of a tuple.
-fn push_image(into: &mut Tuple, word: &[Letter], m: &Move)
-    requires own { cyclic_word word.now ≡ word.now }
-    requires rank { into.old.plain.rank ≡ m.now.rank }
-    requires of_rank { IsOfRank m.now.rank word.now }
-    requires letters { HasLetterRoom into.old (length (cyclic_word (substitute m.now.kind word.now))) }
-    requires place { HasWordRoom into.old }
-    ensures { into.new ≡ with_word into.old (cyclic_word (substitute m.now.kind word.now)) }
-{
-    match m.kind() {
-        Kind::Swap(k) => into.push_swap(word, k),
-        Kind::Invert(k) => into.push_invert(word, k),
-        Kind::Cut { mult, set } => into.push_cut(word, mult, set),
-    }
-}
-
-/// Makes `into` the tuple after a move, word by word.
-#[tactic(auto, using(crate::proofs::ActedWords::image_fits, crate::proofs::ActedWords::image_place, crate::proofs::ActedWords::image_more))]
-fn act_by_words(tuple: &Tuple, m: &Move, into: &mut Tuple)
-    requires rank { tuple.now.plain.rank ≡ m.now.rank }
-    requires short { Fits (spec.act tuple.now.plain m.now) }
-    requires room { tuple_length (spec.act tuple.now.plain m.now) ≤ into.old.room }
-    requires word_room { length tuple.now.plain.words ≤ into.old.word_room }
-    ensures { into.new ≡ in_rooms_of into.old (spec.act tuple.now.plain m.now) }
-{
-    into.clear(m.rank());
-    for place in 0..tuple.count() {
-        push_image(into, tuple.word(place), m);
-    }
-}
-
 /// Makes `into` the tuple after a move of its rank, and keeps its rooms, in which the new tuple has to fit. It takes no
-/// memory, and its time is linear in the letters (Lyndon and Schupp, I.4). Nearly all moves of a level are cuts, so these
-/// go over all words at once.
-#[tactic(auto, using(crate::proofs::ActedWords::cut_acts))]
+/// memory, and its time is linear in the letters (Lyndon and Schupp, I.4).
+#[tactic(auto, using(crate::proofs::ActedWords::kind_acts))]
 pub fn act_into(tuple: &Tuple, m: &Move, into: &mut Tuple)
     requires rank { tuple.now.plain.rank ≡ m.now.rank }
     requires short { Fits (spec.act tuple.now.plain m.now) }
@@ -79,8 +44,9 @@ pub fn act_into(tuple: &Tuple, m: &Move, into: &mut Tuple)
     ensures { into.new ≡ in_rooms_of into.old (spec.act tuple.now.plain m.now) }
 {
     match m.kind() {
+        Kind::Swap(k) => into.become_swapped(tuple, k),
+        Kind::Invert(k) => into.become_inverted(tuple, k),
         Kind::Cut { mult, set } => into.become_cut(tuple, mult, set),
-        Kind::Swap(_) | Kind::Invert(_) => act_by_words(tuple, m, into),
     }
 }
 
@@ -88,7 +54,7 @@ pub fn act_into(tuple: &Tuple, m: &Move, into: &mut Tuple)
 #[tactic(auto, using(crate::proofs::ActedWords::swap_length, crate::proofs::ActedWords::invert_length))]
 fn image_length(word: &[Letter], m: &Move) -> u32
     requires own { cyclic_word word.now ≡ word.now }
-    requires short { length word.now ≤ 4096 }
+    requires short { length word.now ≤ most_letters }
     ensures { result ≡ length (cyclic_word (substitute m.now.kind word.now)) }
 {
     match m.kind() {

@@ -5,7 +5,8 @@ ghost use Rattle.std.specs.Ordering.{as_partial_cmp, eq_by_cmp};
 ghost use Rattle.std.proofs.Common.{rules};
 ghost use Rattle.std.proofs.lemmas.Cmp.{eq_by_cmp_equiv};
 ghost use Rattle.wh_words.specs.Moves.{move_cmp};
-ghost use Rattle.wh_moves.specs.MoveOrders.{move_cmp_total, hash_writes, move_hash_respects_eq};
+ghost use Rattle.wh_moves.specs.MoveOrders.{move_cmp_total, move_hash_respects_eq};
+ghost use Rattle.wh_moves.specs.Packing.{hash_writes};
 
 use crate::moves::Move;
 use std::cmp::Ordering;

@@ -1,6 +1,7 @@
 //! Moves: Whitehead automorphisms of both kinds.
 ghost use Rattle.std.specs.Prelude.{◌≡◌, ◌^◌, ◌<◌, ◌≤◌, ◌↔◌, ◌⊎◌, IsTrue, IsNone, IfSome};
 ghost use Rattle.std.specs.Int.{bit_at};
+ghost use Rattle.wh_words.specs.Limits.{most_rank};
 ghost use Rattle.wh_words.specs.Letters.{inverse_letter};
 ghost use Rattle.wh_words.specs.Moves.{IsMove, IsCut, IsIdentityCut, cut_move, turned_set, inverse_move};
 ghost use Rattle.wh_words.specs.Moves.Kind.{swap, invert};
@@ -10,9 +11,8 @@ ghost use Rattle.wh_moves.specs.Packing.{unpacked, packed, kind_of_code};
 use std::marker::Model;
 use wh_words::{Letter, LetterSet, Rank};
 
-/// What a move does. Generators are numbered from 1. Kinds are ordered as they stand here: swaps, inversions and cuts,
-/// each by its numbers, its multiplier and its set.
-#[derive(Clone, Copy, PartialEq, Eq, PartialOrd, Ord, Hash, Debug)]
+/// What a move does. Generators are numbered from 1.
+#[derive(Clone, Copy, PartialEq, Eq, Debug)]
 pub enum Kind {
     /// Exchanges generators `k` and `k + 1`.
     Swap(u8),
@@ -23,9 +23,10 @@ pub enum Kind {
 }
 
 /// A move of a rank. Swaps and inversions are of the first kind, and generate all permutations of letters that commute
-/// with inversion; cuts are of the second (Lyndon and Schupp, I.4). Contracts see the rank and the kind. It lies in one
-/// number, so that a list of many moves is short: from the highest bits to the lowest the rank, what the move is, and a
-/// generator or a set. Moves are ordered as these numbers are, which is by rank and then by kind.
+/// with inversion; cuts are of the second (Lyndon and Schupp, I.4). Contracts see the rank and the kind. A move lies in
+/// one number, so that lists of moves are short: from the highest bits to the lowest its rank, a code and a generator or a
+/// set. Moves are ordered as these numbers are: by rank, then swaps, inversions and cuts, each by its generator, or by its
+/// multiplier and its set.
 #[derive(Clone, Copy, Debug)]
 pub struct Move {
     number: u64,
@@ -48,11 +49,11 @@ impl Model for Move {
     ghost invariant = { λ m. IsMove (unpacked m.number) };
 }
 
-/// What the lowest bits of a move's number hold is below it.
-const CODE_UNIT: u64 = 1 << 52;
+/// How many numbers there are for a generator or a set, which stands in the lowest bits.
+const SETS: u64 = 1 << 52;
 
-/// What the lowest bits hold and what the move is are together below it.
-const RANK_UNIT: u64 = 64;
+/// How many codes there are. The code stands above the set, and the rank above the code.
+const CODES: u64 = 64;
 
 /// The code of a swap.
 const SWAP: u8 = 0;
@@ -60,17 +61,17 @@ const SWAP: u8 = 0;
 /// The code of an inversion.
 const INVERT: u8 = 1;
 
-/// The code of a cut by the first letter; those by others follow.
+/// The code of a cut whose multiplier is the first letter. Those of the other letters follow.
 const CUT: u8 = 2;
 
-/// The number of the move of a rank with a code and what the lowest bits hold.
+/// The number of the move of a rank with a code and a generator or a set.
 #[tactic(auto, using(crate::proofs::PackedOrder::packed_is))]
 fn packed(rank: Rank, code: u8, rest: u64) -> u64
     requires code { code < 64 }
     requires rest { rest < 2 ^ 52 }
     ensures { unpacked result ≡ record { rank = rank; kind = kind_of_code code rest } }
 {
-    (rank.get() as u64 * RANK_UNIT + code as u64) * CODE_UNIT + rest
+    (rank.get() as u64 * CODES + code as u64) * SETS + rest
 }
 
 /// A set that holds a letter and not its inverse, with the inverse in the letter's place.
@@ -85,7 +86,7 @@ fn turned(set: LetterSet, letter: Letter) -> LetterSet
 /// Whether the letter is of the rank and in the set, its inverse isn't, and the set has letters of the rank alone.
 fn is_cut(rank: Rank, mult: Letter, set: LetterSet) -> bool
     ensures is { IsTrue result ↔ IsCut rank mult set }
-    ensures within { rank ≤ 26 }
+    ensures within { rank ≤ most_rank }
 {
     mult.index() < 2 * rank.get()
         && set.bits() >> (2 * rank.get()) == 0
@@ -138,7 +139,7 @@ impl Move {
         }
     }
 
-    /// The number that it lies in.
+    /// The number that the move lies in.
     pub(crate) fn number(self) -> u64
         ensures number { result ≡ packed self }
         ensures moves { unpacked result ≡ self }
@@ -151,8 +152,8 @@ impl Move {
         ensures kind { kind_of result ≡ self.now.kind }
         ensures valid { IsMove self.now }
     {
-        let code = (self.number / CODE_UNIT % RANK_UNIT) as u8;
-        let rest = self.number % CODE_UNIT;
+        let code = (self.number / SETS % CODES) as u8;
+        let rest = self.number % SETS;
         match code {
             SWAP => Kind::Swap(rest as u8),
             INVERT => Kind::Invert(rest as u8),
@@ -168,7 +169,7 @@ impl Move {
         ensures rank { result ≡ self.now.rank }
         ensures valid { IsMove self.now }
     {
-        Rank::of_number((self.number / CODE_UNIT / RANK_UNIT) as u8)
+        Rank::of_number((self.number / SETS / CODES) as u8)
     }
 
     /// The inverse of the move. Swaps and inversions are their own inverses; the inverse of a cut (A, a) is the cut

@@ -2,6 +2,7 @@
 use Rattle.std.proofs.Common.{◌≡◌, ◌≢◌, ℕ, ◌+◌, ◌-◌, ◌*◌, ◌/◌, ◌<◌, ◌≤◌, ◌==◌, ltb, Bool, true, false, not, ◌&&◌, cond, List, [], ◌∷◌, ◌++◌, length, get_or, take, drop, refl, sym, ap, ◌∙◌, subst, inl, inr, arith, append_assoc, append-nil, length-append}
 use Rattle.std.proofs.lemmas.Bool.{cases_Bool, cases_eq, true≢false, false≢true, and_from, lt-ltb, eq-eqb, ne_eqb, eqb-true}
 use Rattle.std.proofs.lemmas.List.{take_more, take-append-drop}
+use Rattle.std.proofs.Math.Bool.{and-false}
 use Rattle.std.specs.List.{flat_map}
 use Rattle.std.specs.Int.{bit_at}
 use Rattle.wh_words.specs.Letters.{inverse_letter}
@@ -9,12 +10,12 @@ use Rattle.wh_words.specs.Words.{free_reduction, IsReduced, DeletesTo}
 use Rattle.wh_words.specs.CyclicWords.{cyclic_reduction, cyclic_word, least_rotation, cyclic_core, ends_cancel, IsCyclicallyReduced, IsLeastRotation}
 use Rattle.wh_words.specs.Words.DeletesTo.{none as stays, pair}
 use Rattle.wh_words.specs.Passes.{is_other, kept, junction, junction_of, pass, last_or, round_pass}
-use Rattle.wh_words.specs.Moves.{IsCut}
 use Rattle.wh_words.specs.LetterSets.{in_set}
 use Rattle.wh_words.specs.Images.{image}
 use Rattle.wh_words.specs.Action.{substitute}
 use Rattle.wh_words.specs.Moves.Kind.{cut}
 use Rattle.wh_words.proofs.FreeReduction.{inverse-inverse, inverse-other, inverse_generator, free_reduction-same, free_reduction-reduced, remains_there}
+use Rattle.wh_words.proofs.CutWords.{around}
 use Rattle.wh_words.proofs.Turning.{Ends, ends, ends_cancel-two, cyclic_core-other, cyclic_core-two, cyclic_core-length}
 use Rattle.wh_words.proofs.Turning.Ends.{none, one, two}
 use Rattle.wh_words.proofs.Rotations.{least_rotation-is}
@@ -88,19 +89,12 @@ module _ (a : ℕ) (has : ℕ → Bool) where
   mult_is : is_other a has a ≡ false
   mult_is = ap (λ (b : Bool). not b && not (a == inverse_letter a)) (eq-eqb a a refl)
 
-  and_false : (b : Bool) → (b && false) ≡ false
-  and_false true = refl
-  and_false false = refl
-
   inverse_is : is_other a has (inverse_letter a) ≡ false
-  inverse_is = ap (λ (b : Bool). not (inverse_letter a == a) && not b) (eq-eqb (inverse_letter a) (inverse_letter a) refl) ∙ and_false (not (inverse_letter a == a))
+  inverse_is = ap (λ (b : Bool). not (inverse_letter a == a) && not b) (eq-eqb (inverse_letter a) (inverse_letter a) refl) ∙ and-false (not (inverse_letter a == a))
 
 same_generator : (x a : ℕ) → x / 2 ≡ a / 2 → x ≢ a → x ≡ inverse_letter a
 unfolding inverse_letter
 same_generator x a e n = omega (arith, e, n)
-
-abbrev around : Bool → Bool → ℕ → ℕ → List ℕ
-around b c a x = cond b (inverse_letter a ∷ []) [] ++ x ∷ cond c (a ∷ []) []
 
 pub image_spread : (a set x : ℕ) → bit_at set a ≡ 1 → bit_at set (inverse_letter a) ≡ 0 → image (cut a set) x ≡ spread a (in_set set) x
 image_spread a set x holds omits =
@@ -131,13 +125,10 @@ substitute_spread a set h o (x ∷ w) =
     ap (λ v. v ++ substitute (cut a set) w) (image_spread a set x h o) ∙ ap (λ v. spread a (in_set set) x ++ v) (substitute_spread a set h o w)
 
 -- The cyclic word of the image under a cut is what the pass makes, turned to its first rotation.
-pub cut_image_by : (a set : ℕ) (w : List ℕ) → bit_at set a ≡ 1 → bit_at set (inverse_letter a) ≡ 0 → cyclic_word w ≡ w → cyclic_word (substitute (cut a set) w) ≡ least_rotation (round_pass a (in_set set) w)
-cut_image_by a set w h o e =
+pub cut_image : (a set : ℕ) (w : List ℕ) → bit_at set a ≡ 1 → bit_at set (inverse_letter a) ≡ 0 → cyclic_word w ≡ w → cyclic_word (substitute (cut a set) w) ≡ least_rotation (round_pass a (in_set set) w)
+cut_image a set w h o e =
     ap cyclic_word (substitute_spread a set h o w)
     ∙ cut_word a (in_set set) (eq-eqb (bit_at set a) 1 h) (ap (λ b. b == 1) o) w (own_reduced w e)
-
-pub cut_image : (n a set : ℕ) (w : List ℕ) → IsCut n a set → cyclic_word w ≡ w → cyclic_word (substitute (cut a set) w) ≡ least_rotation (round_pass a (in_set set) w)
-cut_image n a set w c e = cut_image_by a set w c.holds c.omits e
 
 pub least_length : (w : List ℕ) → length (least_rotation w) ≡ length w
 least_length w = let least : IsLeastRotation w (least_rotation w) = least_rotation-is w in ap length least.there.2 ∙ rotate-length least.there.0 w
@@ -173,33 +164,27 @@ step_fits a has p w i x here h e f =
       ap (λ b. length (junction_of a has b (has (inverse_letter x)))) f,
     )
 
-pub pass_step : (a : ℕ) (has : ℕ → Bool) (p : ℕ) (w : List ℕ) (i x : ℕ) (here : Bool) (out mid new : List ℕ) → i < length w → x ≡ get_or w i x → here ≡ has (last_or a has p (take i w)) →
-    out ≡ pass a has p (take i w) → mid ≡ out ++ junction_of a has here (has (inverse_letter x)) → new ≡ mid ++ kept a has x → new ≡ pass a has p (take (i + 1) w)
-pass_step a has p w i x here out mid new h e f o m n =
-    n ∙ ap (λ v. v ++ kept a has x) m
-    ∙ append_assoc out (junction_of a has here (has (inverse_letter x))) (kept a has x)
-    ∙ ap (λ v. v ++ (junction_of a has here (has (inverse_letter x)) ++ kept a has x)) o
-    ∙ ap (λ b. pass a has p (take i w) ++ (junction_of a has b (has (inverse_letter x)) ++ kept a has x)) f
-    ∙ sym (pass_more a has p w i x h e)
-
-pub here_more : (a : ℕ) (has : ℕ → Bool) (p : ℕ) (w : List ℕ) (i x : ℕ) → i < length w → x ≡ get_or w i x → has x ≡ has (last_or a has p (take (i + 1) w))
-here_more a has p w i x h e = ap has (last_more a has p w i x h e)
-
--- the same behind letters that were there
-pub pass_step_behind : (a : ℕ) (has : ℕ → Bool) (p : ℕ) (w : List ℕ) (i x : ℕ) (here : Bool) (old out mid new : List ℕ) → i < length w → x ≡ get_or w i x → here ≡ has (last_or a has p (take i w)) →
+-- What is written behind other letters, with what the cut leaves of one more letter.
+pub pass_step : (a : ℕ) (has : ℕ → Bool) (p : ℕ) (w : List ℕ) (i x : ℕ) (here : Bool) (old out mid new : List ℕ) → i < length w → x ≡ get_or w i x → here ≡ has (last_or a has p (take i w)) →
     out ≡ old ++ pass a has p (take i w) → mid ≡ out ++ junction_of a has here (has (inverse_letter x)) → new ≡ mid ++ kept a has x → new ≡ old ++ pass a has p (take (i + 1) w)
-pass_step_behind a has p w i x here old out mid new h e f o m n =
+pass_step a has p w i x here old out mid new h e f o m n =
     let front : List ℕ = pass a has p (take i w) in
     let between : List ℕ = junction_of a has here (has (inverse_letter x)) in
     n ∙ ap (λ v. v ++ kept a has x) (m ∙ ap (λ v. v ++ between) o ∙ append_assoc old front between)
     ∙ append_assoc old (front ++ between) (kept a has x)
-    ∙ ap (λ v. old ++ v) (pass_step a has p w i x here front (front ++ between) ((front ++ between) ++ kept a has x) h e f refl refl refl)
+    ∙ ap (λ v. old ++ v)
+    (append_assoc front between (kept a has x)
+    ∙ ap (λ b. front ++ (junction_of a has b (has (inverse_letter x)) ++ kept a has x)) f
+    ∙ sym (pass_more a has p w i x h e))
+
+pub here_more : (a : ℕ) (has : ℕ → Bool) (p : ℕ) (w : List ℕ) (i x : ℕ) → i < length w → x ≡ get_or w i x → has x ≡ has (last_or a has p (take (i + 1) w))
+here_more a has p w i x h e = ap has (last_more a has p w i x h e)
 
 -- ---- lengths
 pub cut_image_length : (a set : ℕ) (w : List ℕ) → bit_at set a ≡ 1 → bit_at set (inverse_letter a) ≡ 0 → cyclic_word w ≡ w →
     length (round_pass a (in_set set) w) ≡ length (cyclic_word (substitute (cut a set) w))
 cut_image_length a set w h o e =
-    sym (ap length (ap cyclic_word (substitute_spread a set h o w) ∙ cut_word a (in_set set) (eq-eqb (bit_at set a) 1 h) (ap (λ b. b == 1) o) w (own_reduced w e)) ∙ least_length (round_pass a (in_set set) w))
+    sym (ap length (cut_image a set w h o e) ∙ least_length (round_pass a (in_set set) w))
 
 pub step_length : (a : ℕ) (has : ℕ → Bool) (p : ℕ) (w : List ℕ) (i x : ℕ) (here : Bool) → i < length w → x ≡ get_or w i x → here ≡ has (last_or a has p (take i w)) →
     length (pass a has p (take i w)) + (length (junction_of a has here (has (inverse_letter x))) + length (kept a has x)) ≡ length (pass a has p (take (i + 1) w))

@@ -1,10 +1,11 @@
 -- The images of all words of a row under a cut, written one after the other.
-use Rattle.std.proofs.Common.{◌≡◌, ℕ, zero, suc, ◌+◌, ◌<◌, ◌≤◌, List, [], ◌∷◌, ◌++◌, length, get_or, take, drop, map, refl, sym, ap, ◌∙◌, subst, arith, length-take}
+use Rattle.std.proofs.Common.{◌≡◌, ℕ, ◌+◌, ◌<◌, ◌≤◌, List, [], ◌∷◌, ◌++◌, length, get_or, take, drop, map, refl, sym, ap, ◌∙◌, subst, arith, length-take}
 use Rattle.std.proofs.lemmas.List.{map_more, length-map, take_at, take_all}
 use Rattle.std.proofs.lemmas.List.Elements.{All-get_or}
-use Rattle.std.proofs.lemmas.List.Sums.{sum_by_push, sum_by-cons}
+use Rattle.std.proofs.lemmas.List.Sums.{sum_by_push}
 use Rattle.std.specs.Int.{bit_at}
 use Rattle.std.specs.List.{All, sum_by, refill}
+use Rattle.wh_words.specs.Limits.{most_words, most_letters}
 use Rattle.wh_words.specs.Letters.{inverse_letter}
 use Rattle.wh_words.specs.LetterSets.{in_set}
 use Rattle.wh_words.specs.CyclicWords.{cyclic_word, least_rotation}
@@ -14,7 +15,8 @@ use Rattle.wh_words.specs.Moves.{IsCut, cut_move}
 use Rattle.wh_words.specs.Moves.Kind.{cut}
 use Rattle.wh_words.specs.Tuples.{TupleData, IsTuple, IsRoomed, tuple_length}
 use Rattle.wh_words.specs.Storage.{split_at, EndsRise, IsStored, AreWritten}
-use Rattle.wh_words.proofs.CutImages.{cut_image_by, least_length}
+use Rattle.wh_words.proofs.Elements.{total_front}
+use Rattle.wh_words.proofs.CutImages.{cut_image}
 use Rattle.wh_words.proofs.ImageLetters.{acted_tuple}
 use Rattle.wh_words.proofs.StoredWords.{split_at-push, split_at_length, ends_rise-push}
 use Rattle.wh_words.proofs.Storing.{word_written}
@@ -23,22 +25,13 @@ abbrev pub cut_word : ℕ → ℕ → List ℕ → List ℕ
 cut_word a set w = cyclic_word (substitute (cut a set) w)
 
 -- ---- one word
-pub cut_length : (a set : ℕ) (w : List ℕ) → bit_at set a ≡ 1 → bit_at set (inverse_letter a) ≡ 0 → cyclic_word w ≡ w → length (cut_word a set w) ≡ length (round_pass a (in_set set) w)
-cut_length a set w h o e = ap length (cut_image_by a set w h o e) ∙ least_length (round_pass a (in_set set) w)
-
 pub cut_written : (a set at end : ℕ) (w old mid new : List ℕ) → bit_at set a ≡ 1 → bit_at set (inverse_letter a) ≡ 0 → cyclic_word w ≡ w → at ≤ length old →
     take end mid ≡ take at old ++ round_pass a (in_set set) w → take end new ≡ take at (take end mid) ++ least_rotation (drop at (take end mid)) →
     take end new ≡ take at old ++ cut_word a set w
 cut_written a set at end w old mid new h o e l p t =
-    word_written (take at old) (round_pass a (in_set set) w) (cut_word a set w) (take end mid) (take end new) at (omega (arith, length-take at old)) p t (cut_image_by a set w h o e)
+    word_written (take at old) (round_pass a (in_set set) w) (cut_word a set w) (take end mid) (take end new) at (omega (arith, length-take at old)) p t (cut_image a set w h o e)
 
 -- ---- all words
-map_front : (f : List ℕ → List ℕ) (ws : List (List ℕ)) (i : ℕ) → sum_by length (map f (take i ws)) ≤ sum_by length (map f ws)
-map_front f [] zero = omega arith
-map_front f [] (suc i) = omega arith
-map_front f (w ∷ ws) zero = omega arith
-map_front f (w ∷ ws) (suc i) = omega (arith, map_front f ws i, sum_by-cons length (f w) (map f (take i ws)), sum_by-cons length (f w) (map f ws))
-
 pub word_own : (ends letters w : List ℕ) (k : ℕ) → k < length ends → w ≡ get_or (split_at 0 ends letters) k [] → All (λ v. cyclic_word v ≡ v) (split_at 0 ends letters) → cyclic_word w ≡ w
 word_own ends letters w k h e own =
     subst (λ (v : List ℕ). cyclic_word v ≡ v) (sym e) (All-get_or (λ v. cyclic_word v ≡ v) (split_at 0 ends letters) k [] (omega (arith, h, split_at_length 0 ends letters)) own)
@@ -56,7 +49,7 @@ images_sum a set ends letters marks out w k at is h e =
       ap (λ v. length (cut_word a set v)) e,
       ap (sum_by length) (map_more (cut_word a set) ws k [] (omega (arith, h, split_at_length 0 ends letters))),
       sum_by_push length (map (cut_word a set) (take k ws)) (cut_word a set (get_or ws k [])),
-      map_front (cut_word a set) ws (k + 1),
+      total_front (cut_word a set) ws (k + 1),
     )
 
 pub images_fit : (a set : ℕ) (ends letters marks out w : List ℕ) (k at : ℕ) → AreWritten a set ends letters k at marks out → k < length ends → w ≡ get_or (split_at 0 ends letters) k [] →
@@ -89,7 +82,7 @@ images_more a set ends letters marks out marks2 out2 w k at next is h e o n l m 
 -- ---- the tuple
 pub cut_row : (n a set : ℕ) (es xs es2 xs2 : List ℕ) (room word_room held held_words : ℕ) → IsTuple (record { rank = n; words = split_at 0 es xs }) → IsCut n a set →
     split_at 0 es2 xs2 ≡ map (cut_word a set) (split_at 0 es xs) → EndsRise 0 es2 (length xs2) →
-    tuple_length (act (record { rank = n; words = split_at 0 es xs }) (cut_move n a set)) ≤ room → length (split_at 0 es xs) ≤ word_room → room ≤ 4096 → word_room ≤ 64 → room ≤ held → word_room ≤ held_words →
+    tuple_length (act (record { rank = n; words = split_at 0 es xs }) (cut_move n a set)) ≤ room → length (split_at 0 es xs) ≤ word_room → room ≤ most_letters → word_room ≤ most_words → room ≤ held → word_room ≤ held_words →
     IsStored n es2 xs2 room word_room held held_words
 cut_row n a set es xs es2 xs2 room word_room held held_words is c e laid fits few most most_words h hw =
     let d : TupleData = record { rank = n; words = split_at 0 es xs } in

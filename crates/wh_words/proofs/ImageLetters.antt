@@ -10,7 +10,7 @@ use Rattle.wh_words.specs.CyclicWords.{cyclic_word}
 use Rattle.wh_words.specs.Tuples.{TupleData, IsTuple, tuple_length}
 use Rattle.wh_words.specs.Words.{IsOfRank}
 use Rattle.wh_words.specs.Moves as spec
-use Rattle.wh_words.specs.Moves.{Move, IsMove, IsKind, IsCut}
+use Rattle.wh_words.specs.Moves.{Move, IsMove, IsKind}
 use Rattle.wh_words.specs.LetterSets.{in_set}
 use Rattle.wh_words.specs.Images.{swap_letter, image}
 use Rattle.wh_words.specs.Action.{substitute, act}
@@ -45,7 +45,7 @@ pub substitute_length : (k : spec.Kind) (w : List ℕ) → length (substitute k 
 substitute_length k [] = omega arith
 substitute_length k (x ∷ w) = omega (arith, length-append (image k x) (substitute k w), image_length k x, substitute_length k w)
 
-inverse_below : (n x : ℕ) → x < 2 * n → inverse_letter x < 2 * n
+pub inverse_below : (n x : ℕ) → x < 2 * n → inverse_letter x < 2 * n
 unfolding inverse_letter
 inverse_below n x h = omega arith
 

@@ -1,3 +1,4 @@
+pub mod Elements
 pub mod FreeReduction
 pub mod Turning
 pub mod Rotations
@@ -8,9 +9,12 @@ pub mod OnePass
 pub mod PassReduced
 pub mod PassRound
 pub mod ImageLetters
+pub mod CutWords
 pub mod CutImages
 pub mod Storing
 pub mod CutRows
+pub mod Complements
+pub mod ActedRows
 pub mod Mapped
 pub mod MadeOfCyclic
 pub mod MadeOfReduced

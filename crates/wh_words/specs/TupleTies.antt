@@ -10,7 +10,7 @@ use Rattle.std.specs.declared.cmp.Ordering.TheVariants.{Less, Equal, Greater}
 use Rattle.wh_words.specs.Words.{word_cmp}
 use Rattle.wh_words.specs.Tuples.{TupleData, Tuple, own_room, tuple_cmp, tuple_order, hash_writes}
 
-then_equal : (o p : Ordering) → ordering_then o p ≡ Equal → (o ≡ Equal) × (p ≡ Equal)
+pub then_equal : (o p : Ordering) → ordering_then o p ≡ Equal → (o ≡ Equal) × (p ≡ Equal)
 then_equal Less p e = absurd (true≢false (ap is_lt e))
 then_equal Equal p e = (refl, e)
 then_equal Greater p e = absurd (true≢false (ap is_gt e))
@@ -21,7 +21,7 @@ same_from_tied s t e =
     ap (λ (n : ℕ). record { rank = n; words = s.words }) (nat_cmp-IsAntisymmetric s.rank t.rank both.0)
     ∙ ap (λ (ws : List (List ℕ)). record { rank = t.rank; words = ws }) (slice_cmp-IsAntisymmetric (slice_cmp-IsAntisymmetric nat_cmp-IsAntisymmetric) s.words t.words both.1)
 
-equal_then_tied : (o : Ordering) → IsTrue (is_eq o) → o ≡ Equal
+pub equal_then_tied : (o : Ordering) → IsTrue (is_eq o) → o ≡ Equal
 equal_then_tied Less h = absurd (false≢true h)
 equal_then_tied Equal h = refl
 equal_then_tied Greater h = absurd (false≢true h)

@@ -3,14 +3,13 @@ ghost use Rattle.std.specs.Prelude.{◌≡◌, map, ◌+◌, ◌<◌, ◌≤◌,
 ghost use Rattle.smallvec.specs.SmallVec.{HasRoomFor};
 ghost use Rattle.std.specs.Int.{bit_at};
 ghost use Rattle.std.specs.List.{All, sum_by};
+ghost use Rattle.wh_words.specs.Limits.{most_rank, most_letters};
 ghost use Rattle.wh_words.specs.Letters.{inverse_letter};
 ghost use Rattle.wh_words.specs.CyclicWords.{cyclic_word, least_rotation};
 ghost use Rattle.wh_words.specs.Action.{substitute};
 ghost use Rattle.wh_words.specs.Moves.Kind.{cut};
 ghost use Rattle.wh_words.specs.Storage.{EndsRise, split_at, start_at, AreWritten};
 ghost use Rattle.wh_words.specs.Images.{swap_letter, invert_letter};
-ghost use Rattle.wh_words.specs.LetterSets.{in_set};
-ghost use Rattle.wh_words.specs.Passes.{round_pass};
 
 use crate::letter::Letter;
 use crate::letter_set::LetterSet;
@@ -63,7 +62,7 @@ fn write_letters(out: &mut [Letter], at: usize, word: &[Letter]) -> usize
 /// Writes a word with generators `k` and `k + 1` exchanged at a place, and answers the place behind it.
 fn write_swapped(out: &mut [Letter], at: usize, word: &[Letter], k: u8) -> usize
     requires least { 0 < k }
-    requires below { k < 26 }
+    requires below { k < most_rank }
     requires room { at + length word.now ≤ length out.old }
     ensures written { take result out.new ≡ take at out.old ++ map (swap_letter k) word.now }
     ensures place { result ≡ at + length word.now }
@@ -115,7 +114,7 @@ fn turn_between(places: &mut [Letter], start: usize, end: usize)
 impl LetterRun {
     /// No letters, with room for so many.
     pub(crate) fn with_room(alloc: Global, room: usize) -> Result<LetterRun, AllocError>
-        requires { room ≤ 4096 }
+        requires { room ≤ most_letters }
         ensures items { IfOk result (λ r. r.items ≡ []) }
         ensures capacity { IfOk result (λ r. r.capacity ≡ room) }
         ensures succeeds { room ≤ 16 → IsOk result }
@@ -128,7 +127,7 @@ impl LetterRun {
 
     /// The same letters, with room for them alone.
     pub(crate) fn copy(&self, alloc: Global) -> Result<LetterRun, AllocError>
-        requires { length self.now.items ≤ 4096 }
+        requires { length self.now.items ≤ most_letters }
         ensures items { IfOk result (λ r. r.items ≡ self.now.items) }
         ensures capacity { IfOk result (λ r. r.capacity ≡ length self.now.items) }
         ensures succeeds { length self.now.items ≤ 16 → IsOk result }
@@ -173,7 +172,7 @@ impl LetterRun {
     /// Writes a word with generators `k` and `k + 1` exchanged behind the letters.
     pub(crate) fn push_swapped(&mut self, word: &[Letter], k: u8)
         requires least { 0 < k }
-        requires below { k < 26 }
+        requires below { k < most_rank }
         requires room { HasRoomFor self.old (length word.now) }
         ensures items { self.new.items ≡ self.old.items ++ map (swap_letter k) word.now }
         ensures capacity { self.new.capacity ≡ self.old.capacity }
@@ -188,15 +187,6 @@ impl LetterRun {
         ensures capacity { self.new.capacity ≡ self.old.capacity }
     {
         self.count = write_inverted(self.places.as_mut_slice(), self.count, word, k);
-    }
-
-    /// Writes the pass of a cut round a cyclic word behind the letters.
-    pub(crate) fn push_pass(&mut self, word: &[Letter], mult: Letter, set: LetterSet)
-        requires { HasRoomFor self.old (length (round_pass mult (in_set set) word.now)) }
-        ensures items { self.new.items ≡ self.old.items ++ round_pass mult (in_set set) word.now }
-        ensures capacity { self.new.capacity ≡ self.old.capacity }
-    {
-        self.count = write_pass(self.places.as_mut_slice(), self.count, word, mult, set);
     }
 
     /// Turns the word from `start` on to its first rotation.
@@ -312,7 +302,7 @@ pub(crate) fn word_in<'a>(letters: &'a [Letter], ends: &[u16], place: usize) -> 
 #[tactic(auto, using(crate::proofs::Storing::end_split, crate::proofs::Storing::end_length))]
 pub(crate) fn end_word(letters: &mut LetterRun, ends: &mut EndRun, start: usize)
     requires within { start ≤ length letters.old.items }
-    requires short { length letters.old.items ≤ 4096 }
+    requires short { length letters.old.items ≤ most_letters }
     requires room { HasRoomFor ends.old 1 }
     ensures items { letters.new.items ≡ take start letters.old.items ++ least_rotation (drop start letters.old.items) }
     ensures ends { ends.new.items ≡ ends.old.items ++ length letters.old.items ∷ [] }
@@ -355,7 +345,7 @@ fn write_cuts(
     requires holds { bit_at set mult ≡ 1 }
     requires omits { bit_at set (inverse_letter mult) ≡ 0 }
     requires room { sum_by length (map (λ w. cyclic_word (substitute (cut mult set) w)) (split_at 0 ends.now from.now)) < length out.old }
-    requires short { sum_by length (map (λ w. cyclic_word (substitute (cut mult set) w)) (split_at 0 ends.now from.now)) ≤ 4096 }
+    requires short { sum_by length (map (λ w. cyclic_word (substitute (cut mult set) w)) (split_at 0 ends.now from.now)) ≤ most_letters }
     requires places { length ends.now ≤ length marks.old }
     ensures written { AreWritten mult set ends.now from.now (length ends.now) result marks.new out.new }
     ensures same_length { length out.new ≡ length out.old }
@@ -383,7 +373,7 @@ pub(crate) fn fill_cuts(
     requires holds { bit_at set mult ≡ 1 }
     requires omits { bit_at set (inverse_letter mult) ≡ 0 }
     requires room { sum_by length (map (λ w. cyclic_word (substitute (cut mult set) w)) (split_at 0 ends.now from.now)) ≤ letters.old.capacity }
-    requires short { sum_by length (map (λ w. cyclic_word (substitute (cut mult set) w)) (split_at 0 ends.now from.now)) ≤ 4096 }
+    requires short { sum_by length (map (λ w. cyclic_word (substitute (cut mult set) w)) (split_at 0 ends.now from.now)) ≤ most_letters }
     requires places { length ends.now ≤ marks.old.capacity }
     ensures words { split_at 0 marks.new.items letters.new.items ≡ map (λ w. cyclic_word (substitute (cut mult set) w)) (split_at 0 ends.now from.now) }
     ensures laid { EndsRise 0 marks.new.items (length letters.new.items) }

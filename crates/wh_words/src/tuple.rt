@@ -1,13 +1,14 @@
 //! Tuples of cyclic words.
-ghost use Rattle.std.specs.Prelude.{◌≡◌, ◌≢◌, true, ◌+◌, ◌<◌, ◌≤◌, [], ◌∷◌, ◌++◌, length, map, slice_index_or, IfOk, IsOk};
+ghost use Rattle.std.specs.Prelude.{◌≡◌, ◌≢◌, true, ◌+◌, ◌<◌, ◌≤◌, [], length, map, slice_index_or, IfOk, IsOk};
 ghost use Rattle.std.specs.List.{All, sum_by, concat};
 ghost use Rattle.std.specs.Bool.{MatchBool};
+ghost use Rattle.wh_words.specs.Limits.{most_rank, most_words, most_letters};
 ghost use Rattle.wh_words.specs.Words.{IsOfRank};
 ghost use Rattle.wh_words.specs.CyclicWords.{cyclic_word, IsCyclicallyReduced};
 ghost use Rattle.wh_words.specs.Tuples.{tuple_cmp, tuple_length, IsRoomed, own_room, in_rooms_of, without_words, with_word, HasLetterRoom, HasWordRoom};
 ghost use Rattle.wh_words.specs.Moves.{IsCut, IsKind, cut_move};
 ghost use Rattle.wh_words.specs.Action.{act, substitute};
-ghost use Rattle.wh_words.specs.Moves.Kind.{swap, invert, cut};
+ghost use Rattle.wh_words.specs.Moves.Kind.{swap, invert};
 
 use crate::cyclic_word::{CyclicWord, strip_ends};
 use crate::error::OutOfMemory;
@@ -45,7 +46,7 @@ impl Model for Tuple {
 
 /// The letters of all words.
 fn total_length(words: &[CyclicWord]) -> usize
-    requires { sum_by length words.now ≤ 4096 }
+    requires { sum_by length words.now ≤ most_letters }
     ensures { result ≡ sum_by length words.now }
 {
     let mut total = 0;
@@ -57,7 +58,7 @@ fn total_length(words: &[CyclicWord]) -> usize
 
 /// The letters of the cyclic words of all words.
 fn total_core(words: &[Word]) -> usize
-    requires { sum_by length (map cyclic_word words.now) ≤ 4096 }
+    requires { sum_by length (map cyclic_word words.now) ≤ most_letters }
     ensures { result ≡ sum_by length (map cyclic_word words.now) }
 {
     let mut total = 0;
@@ -92,8 +93,8 @@ impl Tuple {
     /// 16 letters.
     pub fn of(alloc: Global, rank: Rank, words: &[Word]) -> Result<Tuple, OutOfMemory>
         requires of_rank { All (IsOfRank rank) words.now }
-        requires few { length words.now ≤ 64 }
-        requires short { sum_by length (map cyclic_word words.now) ≤ 4096 }
+        requires few { length words.now ≤ most_words }
+        requires short { sum_by length (map cyclic_word words.now) ≤ most_letters }
         ensures made { IfOk result (λ t. t ≡ own_room (record { rank = rank; words = map cyclic_word words.now })) }
         ensures succeeds { length words.now ≤ 4 → sum_by length (map cyclic_word words.now) ≤ 16 → IsOk result }
     {
@@ -109,8 +110,8 @@ impl Tuple {
     #[tactic(auto, using(crate::proofs::MadeOfCyclic::made_start, crate::proofs::MadeOfCyclic::made_own))]
     pub fn of_cyclic(alloc: Global, rank: Rank, words: &[CyclicWord]) -> Result<Tuple, OutOfMemory>
         requires of_rank { All (IsOfRank rank) words.now }
-        requires few { length words.now ≤ 64 }
-        requires short { sum_by length words.now ≤ 4096 }
+        requires few { length words.now ≤ most_words }
+        requires short { sum_by length words.now ≤ most_letters }
         ensures made { IfOk result (λ t. t ≡ own_room (record { rank = rank; words = words.now })) }
         ensures succeeds { length words.now ≤ 4 → sum_by length words.now ≤ 16 → IsOk result }
     {
@@ -151,8 +152,8 @@ impl Tuple {
         words: usize,
         letters: usize,
     ) -> Result<Tuple, OutOfMemory>
-        requires few { words ≤ 64 }
-        requires short { letters ≤ 4096 }
+        requires few { words ≤ most_words }
+        requires short { letters ≤ most_letters }
         ensures made { IfOk result (λ t. t ≡ record { plain = record { rank = rank; words = [] }; room = letters; word_room = words }) }
         ensures succeeds { words ≤ 4 → letters ≤ 16 → IsOk result }
     {
@@ -243,6 +244,15 @@ impl Tuple {
         })
     }
 
+    /// Keeps room for the tuple itself alone. What memory it has stays with it.
+    #[tactic(auto, using(crate::proofs::StoredWords::split_at_length, crate::proofs::StoredWords::split_at_total))]
+    pub fn close_rooms(&mut self)
+        ensures { self.new ≡ own_room self.old.plain }
+    {
+        self.room = self.letters.len();
+        self.word_room = self.ends.len();
+    }
+
     /// Takes all words out, makes the tuple one of a rank, and keeps its rooms.
     #[tactic(auto, using(crate::proofs::Storing::empty_tuple))]
     pub fn clear(&mut self, rank: Rank)
@@ -253,8 +263,67 @@ impl Tuple {
         self.ends.clear();
     }
 
-    /// Makes this the tuple after a cut of its rank, and keeps the rooms, in which it has to fit. It is what taking out all
-    /// words and then `push_cut` of each word of the other tuple makes, and faster.
+    /// Writes the image of a cyclic word under the swap of generators `k` and `k + 1` after the words. It has to fit; the
+    /// rooms stay.
+    fn push_swap(&mut self, word: &[Letter], k: u8)
+        requires own { cyclic_word word.now ≡ word.now }
+        requires of_rank { IsOfRank self.old.plain.rank word.now }
+        requires is_swap { IsKind self.old.plain.rank (swap k) }
+        requires within { self.old.plain.rank ≤ most_rank }
+        requires letters { HasLetterRoom self.old (length (cyclic_word (substitute (swap k) word.now))) }
+        requires place { HasWordRoom self.old }
+        ensures { self.new ≡ with_word self.old (cyclic_word (substitute (swap k) word.now)) }
+    {
+        let start = self.letters.len();
+        self.letters.push_swapped(word, k);
+        end_word(&mut self.letters, &mut self.ends, start);
+    }
+
+    /// Writes the image of a cyclic word under the inversion of generator `k` after the words. It has to fit; the rooms
+    /// stay.
+    fn push_invert(&mut self, word: &[Letter], k: u8)
+        requires own { cyclic_word word.now ≡ word.now }
+        requires of_rank { IsOfRank self.old.plain.rank word.now }
+        requires is_invert { IsKind self.old.plain.rank (invert k) }
+        requires letters { HasLetterRoom self.old (length (cyclic_word (substitute (invert k) word.now))) }
+        requires place { HasWordRoom self.old }
+        ensures { self.new ≡ with_word self.old (cyclic_word (substitute (invert k) word.now)) }
+    {
+        let start = self.letters.len();
+        self.letters.push_inverted(word, k);
+        end_word(&mut self.letters, &mut self.ends, start);
+    }
+
+    /// Makes this the tuple after the swap of generators `k` and `k + 1`, and keeps the rooms, in which it has to fit.
+    #[tactic(auto, using(crate::proofs::ActedRows::image_place, crate::proofs::ActedRows::image_more))]
+    pub fn become_swapped(&mut self, tuple: &Tuple, k: u8)
+        requires is_swap { IsKind tuple.now.plain.rank (swap k) }
+        requires letters { tuple_length (act tuple.now.plain (record { rank = tuple.now.plain.rank; kind = swap k })) ≤ self.old.room }
+        requires words { length tuple.now.plain.words ≤ self.old.word_room }
+        ensures { self.new ≡ in_rooms_of self.old (act tuple.now.plain (record { rank = tuple.now.plain.rank; kind = swap k })) }
+    {
+        self.clear(tuple.rank());
+        for place in 0..tuple.count() {
+            self.push_swap(tuple.word(place), k);
+        }
+    }
+
+    /// Makes this the tuple after the inversion of generator `k`, and keeps the rooms, in which it has to fit.
+    #[tactic(auto, using(crate::proofs::ActedRows::image_place, crate::proofs::ActedRows::image_more))]
+    pub fn become_inverted(&mut self, tuple: &Tuple, k: u8)
+        requires is_invert { IsKind tuple.now.plain.rank (invert k) }
+        requires letters { tuple_length (act tuple.now.plain (record { rank = tuple.now.plain.rank; kind = invert k })) ≤ self.old.room }
+        requires words { length tuple.now.plain.words ≤ self.old.word_room }
+        ensures { self.new ≡ in_rooms_of self.old (act tuple.now.plain (record { rank = tuple.now.plain.rank; kind = invert k })) }
+    {
+        self.clear(tuple.rank());
+        for place in 0..tuple.count() {
+            self.push_invert(tuple.word(place), k);
+        }
+    }
+
+    /// Makes this the tuple after a cut of its rank, and keeps the rooms, in which it has to fit. The cut acts in one pass
+    /// round each word (Lyndon and Schupp, I.4), and since nearly all moves of a level are cuts, on all words at once.
     pub fn become_cut(&mut self, tuple: &Tuple, mult: Letter, set: LetterSet)
         requires is_cut { IsCut tuple.now.plain.rank mult set }
         requires letters { tuple_length (act tuple.now.plain (cut_move tuple.now.plain.rank mult set)) ≤ self.old.room }
@@ -270,52 +339,6 @@ impl Tuple {
             mult,
             set,
         );
-    }
-
-    /// Writes the image of a cyclic word under a cut of the rank after the words. It has to fit; the rooms stay. The cut
-    /// acts in one pass (Lyndon and Schupp, I.4).
-    pub fn push_cut(&mut self, word: &[Letter], mult: Letter, set: LetterSet)
-        requires own { cyclic_word word.now ≡ word.now }
-        requires of_rank { IsOfRank self.old.plain.rank word.now }
-        requires is_cut { IsCut self.old.plain.rank mult set }
-        requires letters { HasLetterRoom self.old (length (cyclic_word (substitute (cut mult set) word.now))) }
-        requires place { HasWordRoom self.old }
-        ensures { self.new ≡ with_word self.old (cyclic_word (substitute (cut mult set) word.now)) }
-    {
-        let start = self.letters.len();
-        self.letters.push_pass(word, mult, set);
-        end_word(&mut self.letters, &mut self.ends, start);
-    }
-
-    /// Writes the image of a cyclic word under the swap of generators `k` and `k + 1` after the words. It has to fit; the
-    /// rooms stay.
-    pub fn push_swap(&mut self, word: &[Letter], k: u8)
-        requires own { cyclic_word word.now ≡ word.now }
-        requires of_rank { IsOfRank self.old.plain.rank word.now }
-        requires is_swap { IsKind self.old.plain.rank (swap k) }
-        requires within { self.old.plain.rank ≤ 26 }
-        requires letters { HasLetterRoom self.old (length (cyclic_word (substitute (swap k) word.now))) }
-        requires place { HasWordRoom self.old }
-        ensures { self.new ≡ with_word self.old (cyclic_word (substitute (swap k) word.now)) }
-    {
-        let start = self.letters.len();
-        self.letters.push_swapped(word, k);
-        end_word(&mut self.letters, &mut self.ends, start);
-    }
-
-    /// Writes the image of a cyclic word under the inversion of generator `k` after the words. It has to fit; the rooms
-    /// stay.
-    pub fn push_invert(&mut self, word: &[Letter], k: u8)
-        requires own { cyclic_word word.now ≡ word.now }
-        requires of_rank { IsOfRank self.old.plain.rank word.now }
-        requires is_invert { IsKind self.old.plain.rank (invert k) }
-        requires letters { HasLetterRoom self.old (length (cyclic_word (substitute (invert k) word.now))) }
-        requires place { HasWordRoom self.old }
-        ensures { self.new ≡ with_word self.old (cyclic_word (substitute (invert k) word.now)) }
-    {
-        let start = self.letters.len();
-        self.letters.push_inverted(word, k);
-        end_word(&mut self.letters, &mut self.ends, start);
     }
 
     /// Writes the cyclic word of a cyclically reduced word after the words. It has to fit; the rooms stay.

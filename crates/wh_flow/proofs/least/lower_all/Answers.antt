@@ -1,7 +1,8 @@
 use Rattle.std.proofs.Common.{ℕ, ◌≡◌, ◌+◌, ◌*◌, arith, subst, inl}
 use Rattle.wh_flow.specs.Nets.{cell}
 use Rattle.wh_flow.specs.Rerouting.{IsFirstUpTo}
-use Rattle.wh_flow.proofs.Rerouted.{first_done, first_past, nets_on}
+use Rattle.wh_flow.proofs.Rerouted.{first_done, first_past}
+use Rattle.wh_flow.proofs.Entries.{nets_on}
 use Rattle.wh_flow.proofs.least.lower_all.Goals as goal
 
 pub loop-x-preserved : goal.loop-x-preserved

@@ -1,7 +1,8 @@
 use Rattle.std.proofs.Common.{ℕ, ◌≡◌, ◌+◌, ◌*◌, arith, refl, subst, inr}
 use Rattle.wh_flow.specs.Nets.{cell}
 use Rattle.wh_flow.specs.Rerouting.{IsFirstUpTo}
-use Rattle.wh_flow.proofs.Rerouted.{first_next, first_past, nets_on}
+use Rattle.wh_flow.proofs.Rerouted.{first_next, first_past}
+use Rattle.wh_flow.proofs.Entries.{nets_on}
 use Rattle.wh_flow.proofs.least.lower_row.Goals as goal
 
 pub loop-y-init : goal.loop-y-init

@@ -1,11 +1,11 @@
 use Rattle.std.proofs.Common.{rules, ◌≡◌, ℕ, ◌+◌, ◌<◌, true, false, arith, sym, ap, subst, ◌∙◌, inl, inr}
 use Rattle.std.proofs.lemmas.Bool.{cases_Bool, cases_eq, true≢false}
 use Rattle.wh_words.specs.LetterSets.{in_set}
-use Rattle.wh_flow.specs.Searches.{room, unseen, IsSearching, IsLed}
+use Rattle.wh_flow.specs.Searches.{residual, unseen, IsSearching, IsLed}
 use Rattle.wh_flow.proofs.Pushes.{led_here, led_on}
 use Rattle.wh_flow.proofs.Searching.{searching_starts, searching_skips, searching_more, searching_ends, marked_other, marked_grew, marked_fewer, grew_fewer}
 use Rattle.wh_flow.proofs.residual.+visit.Goals as goal
-use Rattle.wh_flow.proofs.residual.+visit.Goals.{then-not-is_seen+then-room-gt0, then-not-is_seen+else-room-gt0, else-not-is_seen}
+use Rattle.wh_flow.proofs.residual.+visit.Goals.{then-not-is_seen+then-residual-gt0, then-not-is_seen+else-residual-gt0, else-not-is_seen}
 
 pub loop-y-init : goal.loop-y-init
 loop-y-init t c = record {
@@ -22,9 +22,9 @@ loop-y-init t c = record {
 
 pub loop-y-preserved : goal.loop-y-preserved
 loop-y-preserved t c = elim c.if-not-is_seen.branch [
-  | then-not-is_seen+then-room-gt0 w ↦
+  | then-not-is_seen+then-residual-gt0 w ↦
       (let fresh : in_set c.loop-y.seen c.loop-y.y ≡ false = search rules in
-      let there : 0 < room c.args.cap.now c.args.flow.now 0 c.args.v c.loop-y.y = omega (arith, w.if-room-gt0.true, w.room_of-room.ensures) in
+      let there : 0 < residual c.args.cap.now c.args.flow.now 0 c.args.v c.loop-y.y = omega (arith, w.if-residual-gt0.true, w.residual_capacity-residual.ensures) in
       record {
         grew = λ z b. subst (λ (s : ℕ). in_set s z ≡ true) (sym w.seen-is) (w.visit.ensures.grew z (c.loop-y.invariant.grew z b));
         fewer = omega (arith, ap unseen w.seen-is, grew_fewer c.loop-y.seen w.visit.new.seen w.visit.ensures.grew, c.loop-y.invariant.fewer);
@@ -37,8 +37,8 @@ loop-y-preserved t c = elim c.if-not-is_seen.branch [
         ];
         past = λ x l. ap (λ s. in_set s x) w.seen-is ∙ w.visit.ensures.of_letters x l ∙ c.loop-y.invariant.past x l;
       })
-  | then-not-is_seen+else-room-gt0 w ↦
-      (let none : room c.args.cap.now c.args.flow.now 0 c.args.v c.loop-y.y ≡ 0 = omega (arith, w.if-room-gt0.false, w.room_of-room.ensures) in
+  | then-not-is_seen+else-residual-gt0 w ↦
+      (let none : residual c.args.cap.now c.args.flow.now 0 c.args.v c.loop-y.y ≡ 0 = omega (arith, w.if-residual-gt0.false, w.residual_capacity-residual.ensures) in
       record {
         grew = λ z b. subst (λ (s : ℕ). in_set s z ≡ true) (sym w.seen-is) (c.loop-y.invariant.grew z b);
         fewer = omega (arith, ap unseen w.seen-is, c.loop-y.invariant.fewer);

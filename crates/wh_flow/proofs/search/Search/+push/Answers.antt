@@ -1,10 +1,10 @@
 use Rattle.std.proofs.Common.{rules, ◌≡◌, ℕ, ◌+◌, ◌<◌, true, false, arith, sym, ap, subst, ◌∙◌, refl, inl, inr, List}
 use Rattle.wh_words.specs.LetterSets.{in_set}
-use Rattle.wh_flow.specs.Searches.{room, unseen, IsPushed, IsSearching, IsSearched}
-use Rattle.wh_flow.proofs.Pushes.{pushed_on, room_kept}
+use Rattle.wh_flow.specs.Searches.{residual, unseen, IsPushed, IsSearching, IsSearched}
+use Rattle.wh_flow.proofs.Pushes.{pushed_on, residual_kept}
 use Rattle.wh_flow.proofs.Searching.{searching_starts, searching_skips, searching_more, searching_ends, marked_grew, marked_fewer, grew_fewer}
 use Rattle.wh_flow.proofs.search.Search.+push.Goals as goal
-use Rattle.wh_flow.proofs.search.Search.+push.Goals.{then-not-is_seen+then-room-gt0+else-d-gt0, then-not-is_seen+else-room-gt0, else-not-is_seen}
+use Rattle.wh_flow.proofs.search.Search.+push.Goals.{then-not-is_seen+then-residual-gt0+else-d-gt0, then-not-is_seen+else-residual-gt0, else-not-is_seen}
 
 pub loop-y-init : goal.loop-y-init
 loop-y-init t c = record {
@@ -19,8 +19,8 @@ shift-requires-clause-fits t c = omega (
   arith,
   c.push-d.ensures.most,
   c.lesser.ensures.second,
-  c.room_of-room.ensures,
-  room_kept c.args.cap.now c.loop-y.flow c.push-d.new.flow c.loop-y.seen c.args.self.from c.args.v c.loop-y.y c.args.self.sink c.push-d.result
+  c.residual_capacity-residual.ensures,
+  residual_kept c.args.cap.now c.loop-y.flow c.push-d.new.flow c.loop-y.seen c.args.self.from c.args.v c.loop-y.y c.args.self.sink c.push-d.result
       (omega (arith, c.requires.v_within, c.requires.letters)) (omega (arith, c.loop-y-test.true, c.requires.letters)) c.loop-y.invariant.searching.start (c.push-d.ensures.pushed c.if-d-gt0.true),
 )
 
@@ -36,11 +36,11 @@ returns-then-d-gt0-clause-pushed t c h =
 
 pub loop-y-preserved : goal.loop-y-preserved
 loop-y-preserved t c = elim c.if-not-is_seen.branch [
-  | then-not-is_seen+then-room-gt0+else-d-gt0 w ↦
+  | then-not-is_seen+then-residual-gt0+else-d-gt0 w ↦
       (let none : w.push-d.result ≡ 0 = omega (arith, w.if-d-gt0.false) in
       let fresh : in_set c.loop-y.seen c.loop-y.y ≡ false = search rules in
-      let there : 0 < room c.args.cap.now c.args.flow.now c.args.self.from c.args.v c.loop-y.y =
-      subst (λ (f : List ℕ). 0 < room c.args.cap.now f c.args.self.from c.args.v c.loop-y.y) c.loop-y.invariant.same (omega (arith, w.if-room-gt0.true, w.room_of-room.ensures)) in
+      let there : 0 < residual c.args.cap.now c.args.flow.now c.args.self.from c.args.v c.loop-y.y =
+      subst (λ (f : List ℕ). 0 < residual c.args.cap.now f c.args.self.from c.args.v c.loop-y.y) c.loop-y.invariant.same (omega (arith, w.if-residual-gt0.true, w.residual_capacity-residual.ensures)) in
       let searched : IsSearched c.args.cap.now c.args.flow.now c.loop-y.seen w.push-d.new.seen c.args.self.from c.loop-y.y c.args.self.sink =
       subst (λ (f : List ℕ). IsSearched c.args.cap.now f c.loop-y.seen w.push-d.new.seen c.args.self.from c.loop-y.y c.args.self.sink) c.loop-y.invariant.same (w.push-d.ensures.searched none) in
       record {
@@ -50,9 +50,9 @@ loop-y-preserved t c = elim c.if-not-is_seen.branch [
         searching = subst (λ (s : ℕ). IsSearching c.args.cap.now c.args.flow.now c.args.seen.now s c.args.self.from c.args.v c.args.self.sink (c.loop-y.y + 1)) (sym w.seen-is)
             (searching_more c.args.cap.now c.args.flow.now c.args.seen.now c.args.self.from c.args.v c.args.self.sink c.loop-y.seen w.push-d.new.seen c.loop-y.y (omega (arith, c.requires.v_within, c.requires.letters)) (omega (arith, c.loop-y-test.true, c.requires.letters)) c.loop-y.invariant.searching there fresh w.push-d.ensures.grew searched);
       })
-  | then-not-is_seen+else-room-gt0 w ↦
-      (let none : room c.args.cap.now c.args.flow.now c.args.self.from c.args.v c.loop-y.y ≡ 0 =
-      subst (λ (f : List ℕ). room c.args.cap.now f c.args.self.from c.args.v c.loop-y.y ≡ 0) c.loop-y.invariant.same (omega (arith, w.if-room-gt0.false, w.room_of-room.ensures)) in
+  | then-not-is_seen+else-residual-gt0 w ↦
+      (let none : residual c.args.cap.now c.args.flow.now c.args.self.from c.args.v c.loop-y.y ≡ 0 =
+      subst (λ (f : List ℕ). residual c.args.cap.now f c.args.self.from c.args.v c.loop-y.y ≡ 0) c.loop-y.invariant.same (omega (arith, w.if-residual-gt0.false, w.residual_capacity-residual.ensures)) in
       record {
         same = w.flow-is ∙ c.loop-y.invariant.same;
         grew = λ z b. subst (λ (s : ℕ). in_set s z ≡ true) (sym w.seen-is) (c.loop-y.invariant.grew z b);
