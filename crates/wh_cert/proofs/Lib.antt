@@ -1,5 +1,4 @@
 pub mod Judging
-pub mod Complements
 pub mod Staying
 pub mod Flowing
 pub mod Carried

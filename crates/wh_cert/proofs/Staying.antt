@@ -16,7 +16,7 @@ use Rattle.wh_graph.proofs.ComplementCuts.{generator_of, complement, complement_
 use Rattle.wh_cert.specs.Demands.{ImagesAreIn}
 use Rattle.wh_sets.specs.TupleSets.{HaveSameTuples}
 use Rattle.wh_cert.specs.Listings.{StaysIn, SwapsStay, InversionsStay, CutsStay}
-use Rattle.wh_cert.proofs.Complements.{turned_acts}
+use Rattle.wh_words.proofs.Complements.{turned_acts}
 
 -- ---- one after another
 pub next_before : (P : ℕ → Type 0) (k : ℕ) → ((j : ℕ) → j < k → P j) → P k → (j : ℕ) → j < k + 1 → P j

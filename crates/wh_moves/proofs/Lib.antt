@@ -1,3 +1,4 @@
+pub mod PackedOrder
 pub mod ActedLists
 pub mod ActedWords
 pub mod CutLetters

@@ -1,4 +1,5 @@
 pub mod Kinds
+pub mod Packing
 pub mod MoveOrders
 pub mod Acts
 pub mod Laws

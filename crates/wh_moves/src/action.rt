@@ -1,9 +1,8 @@
 //! The action of a move on a tuple of cyclic words.
 ghost use Rattle.std.specs.Prelude.{◌≡◌, ◌≤◌, length, IfOk, IfErr};
 ghost use Rattle.wh_words.specs.Limits.{most_letters};
-ghost use Rattle.wh_words.specs.Words.{IsOfRank};
 ghost use Rattle.wh_words.specs.CyclicWords.{cyclic_word};
-ghost use Rattle.wh_words.specs.Tuples.{tuple_length, own_room, with_word, HasLetterRoom, HasWordRoom, in_rooms_of};
+ghost use Rattle.wh_words.specs.Tuples.{tuple_length, own_room, in_rooms_of};
 ghost use Rattle.wh_words.specs.Action as spec;
 ghost use Rattle.wh_words.specs.Action.{substitute};
 ghost use Rattle.wh_moves.specs.Acts.{Fits, IsActFault};
@@ -34,25 +33,9 @@ impl From<OutOfMemory> for ActError {
     }
 }
 
-/// Writes the image of a cyclic word after the words of a tuple.
-fn push_image(into: &mut Tuple, word: &[Letter], m: &Move)
-    requires own { cyclic_word word.now ≡ word.now }
-    requires rank { into.old.plain.rank ≡ m.now.rank }
-    requires of_rank { IsOfRank m.now.rank word.now }
-    requires letters { HasLetterRoom into.old (length (cyclic_word (substitute m.now.kind word.now))) }
-    requires place { HasWordRoom into.old }
-    ensures { into.new ≡ with_word into.old (cyclic_word (substitute m.now.kind word.now)) }
-{
-    match m.kind() {
-        Kind::Swap(k) => into.push_swap(word, k),
-        Kind::Invert(k) => into.push_invert(word, k),
-        Kind::Cut { mult, set } => into.push_cut(word, mult, set),
-    }
-}
-
 /// Makes `into` the tuple after a move of its rank, and keeps its rooms, in which the new tuple has to fit. It takes no
 /// memory, and its time is linear in the letters (Lyndon and Schupp, I.4).
-#[tactic(auto, using(crate::proofs::ActedWords::image_fits, crate::proofs::ActedWords::image_place, crate::proofs::ActedWords::image_more))]
+#[tactic(auto, using(crate::proofs::ActedWords::kind_acts))]
 pub fn act_into(tuple: &Tuple, m: &Move, into: &mut Tuple)
     requires rank { tuple.now.plain.rank ≡ m.now.rank }
     requires short { Fits (spec.act tuple.now.plain m.now) }
@@ -60,9 +43,10 @@ pub fn act_into(tuple: &Tuple, m: &Move, into: &mut Tuple)
     requires word_room { length tuple.now.plain.words ≤ into.old.word_room }
     ensures { into.new ≡ in_rooms_of into.old (spec.act tuple.now.plain m.now) }
 {
-    into.clear(m.rank());
-    for place in 0..tuple.count() {
-        push_image(into, tuple.word(place), m);
+    match m.kind() {
+        Kind::Swap(k) => into.become_swapped(tuple, k),
+        Kind::Invert(k) => into.become_inverted(tuple, k),
+        Kind::Cut { mult, set } => into.become_cut(tuple, mult, set),
     }
 }
 

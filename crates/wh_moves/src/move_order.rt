@@ -1,14 +1,30 @@
-//! Equality and order of moves. Neither takes memory.
+//! Equality, order and hash of moves: those of their numbers.
 ghost use Rattle.std.specs.Cmp.{partial_order_from_own_ties};
 ghost use Rattle.std.specs.Cmp.Rules.{comparing};
 ghost use Rattle.std.specs.Ordering.{as_partial_cmp, eq_by_cmp};
 ghost use Rattle.std.proofs.Common.{rules};
 ghost use Rattle.std.proofs.lemmas.Cmp.{eq_by_cmp_equiv};
 ghost use Rattle.wh_words.specs.Moves.{move_cmp};
-ghost use Rattle.wh_moves.specs.MoveOrders.{move_cmp_total};
+ghost use Rattle.wh_moves.specs.MoveOrders.{move_cmp_total, move_hash_respects_eq};
+ghost use Rattle.wh_moves.specs.Packing.{hash_writes};
 
 use crate::moves::Move;
 use std::cmp::Ordering;
+use std::hash::{Hash, Hasher};
+
+impl PartialEq for Move {
+    ghost eq = { eq_by_cmp move_cmp };
+
+    ghost laws = { Prim.search (comparing, move_cmp_total, rules) };
+
+    fn eq(&self, other: &Move) -> bool {
+        self.cmp(other).is_eq()
+    }
+}
+
+impl Eq for Move {
+    ghost laws = { eq_by_cmp_equiv move_cmp_total };
+}
 
 impl PartialOrd for Move {
     ghost partial_cmp = { as_partial_cmp move_cmp };
@@ -30,8 +46,16 @@ impl Ord for Move {
     ghost matches_eq = { Prim.search (comparing, move_cmp_total, rules) };
 
     fn cmp(&self, other: &Move) -> Ordering {
-        self.rank()
-            .cmp(&other.rank())
-            .then(self.kind().cmp(&other.kind()))
+        self.number().cmp(&other.number())
+    }
+}
+
+impl Hash for Move {
+    ghost hash_input = { hash_writes };
+
+    ghost respects_eq = { move_hash_respects_eq };
+
+    fn hash<H: Hasher>(&self, state: &mut H) {
+        self.number().hash(state);
     }
 }

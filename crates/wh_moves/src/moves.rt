@@ -1,17 +1,18 @@
 //! Moves: Whitehead automorphisms of both kinds.
-ghost use Rattle.std.specs.Prelude.{◌≡◌, ◌<◌, ◌≤◌, ◌↔◌, ◌⊎◌, IsTrue, IsNone, IfSome};
+ghost use Rattle.std.specs.Prelude.{◌≡◌, ◌^◌, ◌<◌, ◌≤◌, ◌↔◌, ◌⊎◌, IsTrue, IsNone, IfSome};
 ghost use Rattle.std.specs.Int.{bit_at};
+ghost use Rattle.wh_words.specs.Limits.{most_rank};
 ghost use Rattle.wh_words.specs.Letters.{inverse_letter};
 ghost use Rattle.wh_words.specs.Moves.{IsMove, IsCut, IsIdentityCut, cut_move, turned_set, inverse_move};
 ghost use Rattle.wh_words.specs.Moves.Kind.{swap, invert};
 ghost use Rattle.wh_moves.specs.Kinds.{kind_of};
+ghost use Rattle.wh_moves.specs.Packing.{unpacked, packed, kind_of_code};
 
 use std::marker::Model;
 use wh_words::{Letter, LetterSet, Rank};
 
-/// What a move does. Generators are numbered from 1. Kinds are ordered as they stand here: swaps, inversions and cuts,
-/// each by its numbers, its multiplier and its set.
-#[derive(Clone, Copy, PartialEq, Eq, PartialOrd, Ord, Hash, Debug)]
+/// What a move does. Generators are numbered from 1.
+#[derive(Clone, Copy, PartialEq, Eq, Debug)]
 pub enum Kind {
     /// Exchanges generators `k` and `k + 1`.
     Swap(u8),
@@ -22,29 +23,55 @@ pub enum Kind {
 }
 
 /// A move of a rank. Swaps and inversions are of the first kind, and generate all permutations of letters that commute
-/// with inversion; cuts are of the second (Lyndon and Schupp, I.4). Contracts see the rank and the kind. Moves are
-/// ordered by rank and then by kind.
-#[derive(Clone, Copy, PartialEq, Eq, Hash, Debug)]
+/// with inversion; cuts are of the second (Lyndon and Schupp, I.4). Contracts see the rank and the kind. A move lies in
+/// one number, so that lists of moves are short: from the highest bits to the lowest its rank, a code and a generator or a
+/// set. Moves are ordered as these numbers are: by rank, then swaps, inversions and cuts, each by its generator, or by its
+/// multiplier and its set.
+#[derive(Clone, Copy, Debug)]
 pub struct Move {
-    rank: Rank,
-    kind: Kind,
+    number: u64,
 }
 
 impl Model for Move {
     ghost use Rattle.std.proofs.Common.{ap};
     ghost use Rattle.wh_words.specs.Moves as spec;
     ghost use Rattle.wh_words.specs.Moves.{IsMove};
-    ghost use Rattle.wh_moves.specs.Kinds.{kind_of, kind_back, kind_back_of};
+    ghost use Rattle.wh_moves.specs.Packing.{unpacked, packed, packed_back};
 
     ghost Value = { spec.Move };
 
-    ghost view = { λ m. record { rank = m.rank; kind = kind_of m.kind } };
+    ghost view = { λ m. unpacked m.number };
 
-    ghost inverse = { λ m. record { rank = m.rank; kind = kind_back m.kind } };
+    ghost inverse = { λ m. record { number = packed m } };
 
-    ghost inverse_ok = { λ a h. ap (λ k. record { rank = a.rank; kind = k }) (kind_back_of a.kind) };
+    ghost inverse_ok = { λ a h. ap (λ n. record { number = n }) (packed_back a.number) };
 
-    ghost invariant = { λ m. IsMove (record { rank = m.rank; kind = kind_of m.kind }) };
+    ghost invariant = { λ m. IsMove (unpacked m.number) };
+}
+
+/// How many numbers there are for a generator or a set, which stands in the lowest bits.
+const SETS: u64 = 1 << 52;
+
+/// How many codes there are. The code stands above the set, and the rank above the code.
+const CODES: u64 = 64;
+
+/// The code of a swap.
+const SWAP: u8 = 0;
+
+/// The code of an inversion.
+const INVERT: u8 = 1;
+
+/// The code of a cut whose multiplier is the first letter. Those of the other letters follow.
+const CUT: u8 = 2;
+
+/// The number of the move of a rank with a code and a generator or a set.
+#[tactic(auto, using(crate::proofs::PackedOrder::packed_is))]
+fn packed(rank: Rank, code: u8, rest: u64) -> u64
+    requires code { code < 64 }
+    requires rest { rest < 2 ^ 52 }
+    ensures { unpacked result ≡ record { rank = rank; kind = kind_of_code code rest } }
+{
+    (rank.get() as u64 * CODES + code as u64) * SETS + rest
 }
 
 /// A set that holds a letter and not its inverse, with the inverse in the letter's place.
@@ -54,6 +81,17 @@ fn turned(set: LetterSet, letter: Letter) -> LetterSet
     ensures { result ≡ turned_set letter set }
 {
     set.with(letter.inverse()).without(letter)
+}
+
+/// Whether the letter is of the rank and in the set, its inverse isn't, and the set has letters of the rank alone.
+fn is_cut(rank: Rank, mult: Letter, set: LetterSet) -> bool
+    ensures is { IsTrue result ↔ IsCut rank mult set }
+    ensures within { rank ≤ most_rank }
+{
+    mult.index() < 2 * rank.get()
+        && set.bits() >> (2 * rank.get()) == 0
+        && set.contains(mult)
+        && !set.contains(mult.inverse())
 }
 
 impl Move {
@@ -66,8 +104,7 @@ impl Move {
             None
         } else {
             Some(Move {
-                rank,
-                kind: Kind::Swap(k),
+                number: packed(rank, SWAP, k as u64),
             })
         }
     }
@@ -81,8 +118,7 @@ impl Move {
             None
         } else {
             Some(Move {
-                rank,
-                kind: Kind::Invert(k),
+                number: packed(rank, INVERT, k as u64),
             })
         }
     }
@@ -94,18 +130,21 @@ impl Move {
         ensures some { IfSome result (λ m. m ≡ cut_move rank mult set) }
         ensures valid { IfSome result (λ _. IsCut rank mult set) }
     {
-        let valid = mult.index() < 2 * rank.get()
-            && set.bits() >> (2 * rank.get()) == 0
-            && set.contains(mult)
-            && !set.contains(mult.inverse());
-        if valid {
+        if is_cut(rank, mult, set) {
             Some(Move {
-                rank,
-                kind: Kind::Cut { mult, set },
+                number: packed(rank, CUT + mult.index(), set.bits()),
             })
         } else {
             None
         }
+    }
+
+    /// The number that the move lies in.
+    pub(crate) fn number(self) -> u64
+        ensures number { result ≡ packed self }
+        ensures moves { unpacked result ≡ self }
+    {
+        self.number
     }
 
     /// What the move does.
@@ -113,7 +152,16 @@ impl Move {
         ensures kind { kind_of result ≡ self.now.kind }
         ensures valid { IsMove self.now }
     {
-        self.kind
+        let code = (self.number / SETS % CODES) as u8;
+        let rest = self.number % SETS;
+        match code {
+            SWAP => Kind::Swap(rest as u8),
+            INVERT => Kind::Invert(rest as u8),
+            _ => Kind::Cut {
+                mult: Letter::of_index(code - CUT),
+                set: LetterSet::of_bits(rest),
+            },
+        }
     }
 
     /// The rank of the group that it moves.
@@ -121,7 +169,7 @@ impl Move {
         ensures rank { result ≡ self.now.rank }
         ensures valid { IsMove self.now }
     {
-        self.rank
+        Rank::of_number((self.number / SETS / CODES) as u8)
     }
 
     /// The inverse of the move. Swaps and inversions are their own inverses; the inverse of a cut (A, a) is the cut
@@ -129,16 +177,15 @@ impl Move {
     pub fn inverse(&self) -> Move
         ensures { result ≡ inverse_move self.now }
     {
-        let kind = match self.kind {
-            Kind::Cut { mult, set } => Kind::Cut {
-                mult: mult.inverse(),
-                set: turned(set, mult),
+        match self.kind() {
+            Kind::Cut { mult, set } => Move {
+                number: packed(
+                    self.rank(),
+                    CUT + mult.inverse().index(),
+                    turned(set, mult).bits(),
+                ),
             },
-            own => own,
-        };
-        Move {
-            rank: self.rank,
-            kind,
+            Kind::Swap(_) | Kind::Invert(_) => *self,
         }
     }
 
@@ -146,7 +193,7 @@ impl Move {
     pub fn is_identity(&self) -> bool
         ensures { IsTrue result ↔ IsIdentityCut self.now.kind }
     {
-        match self.kind {
+        match self.kind() {
             Kind::Cut { mult, set } => set.bits() == 1 << mult.index(),
             Kind::Swap(_) | Kind::Invert(_) => false,
         }

@@ -63,14 +63,16 @@ fn two_tuples(tuples: Vec<Tuple>) -> Result<(Tuple, Tuple), ReadError>
     ensures { Gives (λ p. (p.0.plain, p.1.plain)) result (spec.two_tuples (map (λ t. t.plain) tuples.items)) }
 {
     let found = tuples.len();
-    let mut tuples = tuples;
-    match (tuples.pop(), tuples.pop()) {
-        (Some(second), Some(first)) if found == 2 => Ok((first, second)),
-        _ => Err(ReadError::TupleCount {
+    if found != 2 {
+        return Err(ReadError::TupleCount {
             expected: 2,
             found: found as u64,
-        }),
+        });
     }
+    let mut tuples = tuples;
+    let second = tuples.pop().unwrap();
+    let first = tuples.pop().unwrap();
+    Ok((first, second))
 }
 
 /// The problem of two tuples, or SizeMismatch.

@@ -1,9 +1,8 @@
 -- What the program writes for a word under a cut: the pass round it, turned to its least rotation.
 use Rattle.std.proofs.Common.{◌≡◌, ◌≢◌, ℕ, ◌+◌, ◌-◌, ◌*◌, ◌/◌, ◌<◌, ◌≤◌, ◌==◌, ltb, Bool, true, false, not, ◌&&◌, cond, List, [], ◌∷◌, ◌++◌, length, get_or, take, drop, refl, sym, ap, ◌∙◌, subst, inl, inr, arith, append_assoc, append-nil, length-append}
 use Rattle.std.proofs.lemmas.Bool.{cases_Bool, cases_eq, true≢false, false≢true, and_from, lt-ltb, eq-eqb, ne_eqb, eqb-true}
-use Rattle.std.proofs.lemmas.List.{take_more, take-append-drop, take-append-le, take-take}
+use Rattle.std.proofs.lemmas.List.{take_more, take-append-drop}
 use Rattle.std.proofs.Math.Bool.{and-false}
-use Rattle.std.proofs.Math.Seq.{take-append-add}
 use Rattle.std.specs.List.{flat_map}
 use Rattle.std.specs.Int.{bit_at}
 use Rattle.wh_words.specs.Letters.{inverse_letter}
@@ -11,7 +10,6 @@ use Rattle.wh_words.specs.Words.{free_reduction, IsReduced, DeletesTo}
 use Rattle.wh_words.specs.CyclicWords.{cyclic_reduction, cyclic_word, least_rotation, cyclic_core, ends_cancel, IsCyclicallyReduced, IsLeastRotation}
 use Rattle.wh_words.specs.Words.DeletesTo.{none as stays, pair}
 use Rattle.wh_words.specs.Passes.{is_other, kept, junction, junction_of, pass, last_or, round_pass}
-use Rattle.wh_words.specs.Moves.{IsCut}
 use Rattle.wh_words.specs.LetterSets.{in_set}
 use Rattle.wh_words.specs.Images.{image}
 use Rattle.wh_words.specs.Action.{substitute}
@@ -127,10 +125,10 @@ substitute_spread a set h o (x ∷ w) =
     ap (λ v. v ++ substitute (cut a set) w) (image_spread a set x h o) ∙ ap (λ v. spread a (in_set set) x ++ v) (substitute_spread a set h o w)
 
 -- The cyclic word of the image under a cut is what the pass makes, turned to its first rotation.
-pub cut_image : (n a set : ℕ) (w : List ℕ) → IsCut n a set → cyclic_word w ≡ w → cyclic_word (substitute (cut a set) w) ≡ least_rotation (round_pass a (in_set set) w)
-cut_image n a set w c e =
-    ap cyclic_word (substitute_spread a set c.holds c.omits w)
-    ∙ cut_word a (in_set set) (eq-eqb (bit_at set a) 1 c.holds) (ap (λ b. b == 1) c.omits) w (own_reduced w e)
+pub cut_image : (a set : ℕ) (w : List ℕ) → bit_at set a ≡ 1 → bit_at set (inverse_letter a) ≡ 0 → cyclic_word w ≡ w → cyclic_word (substitute (cut a set) w) ≡ least_rotation (round_pass a (in_set set) w)
+cut_image a set w h o e =
+    ap cyclic_word (substitute_spread a set h o w)
+    ∙ cut_word a (in_set set) (eq-eqb (bit_at set a) 1 h) (ap (λ b. b == 1) o) w (own_reduced w e)
 
 pub least_length : (w : List ℕ) → length (least_rotation w) ≡ length w
 least_length w = let least : IsLeastRotation w (least_rotation w) = least_rotation-is w in ap length least.there.2 ∙ rotate-length least.there.0 w
@@ -166,36 +164,27 @@ step_fits a has p w i x here h e f =
       ap (λ b. length (junction_of a has b (has (inverse_letter x)))) f,
     )
 
-pub pass_step : (a : ℕ) (has : ℕ → Bool) (p : ℕ) (w : List ℕ) (i x : ℕ) (here : Bool) (out mid new : List ℕ) → i < length w → x ≡ get_or w i x → here ≡ has (last_or a has p (take i w)) →
-    out ≡ pass a has p (take i w) → mid ≡ out ++ junction_of a has here (has (inverse_letter x)) → new ≡ mid ++ kept a has x → new ≡ pass a has p (take (i + 1) w)
-pass_step a has p w i x here out mid new h e f o m n =
-    n ∙ ap (λ v. v ++ kept a has x) m
-    ∙ append_assoc out (junction_of a has here (has (inverse_letter x))) (kept a has x)
-    ∙ ap (λ v. v ++ (junction_of a has here (has (inverse_letter x)) ++ kept a has x)) o
-    ∙ ap (λ b. pass a has p (take i w) ++ (junction_of a has b (has (inverse_letter x)) ++ kept a has x)) f
-    ∙ sym (pass_more a has p w i x h e)
+-- What is written behind other letters, with what the cut leaves of one more letter.
+pub pass_step : (a : ℕ) (has : ℕ → Bool) (p : ℕ) (w : List ℕ) (i x : ℕ) (here : Bool) (old out mid new : List ℕ) → i < length w → x ≡ get_or w i x → here ≡ has (last_or a has p (take i w)) →
+    out ≡ old ++ pass a has p (take i w) → mid ≡ out ++ junction_of a has here (has (inverse_letter x)) → new ≡ mid ++ kept a has x → new ≡ old ++ pass a has p (take (i + 1) w)
+pass_step a has p w i x here old out mid new h e f o m n =
+    let front : List ℕ = pass a has p (take i w) in
+    let between : List ℕ = junction_of a has here (has (inverse_letter x)) in
+    n ∙ ap (λ v. v ++ kept a has x) (m ∙ ap (λ v. v ++ between) o ∙ append_assoc old front between)
+    ∙ append_assoc old (front ++ between) (kept a has x)
+    ∙ ap (λ v. old ++ v)
+    (append_assoc front between (kept a has x)
+    ∙ ap (λ b. front ++ (junction_of a has b (has (inverse_letter x)) ++ kept a has x)) f
+    ∙ sym (pass_more a has p w i x h e))
 
 pub here_more : (a : ℕ) (has : ℕ → Bool) (p : ℕ) (w : List ℕ) (i x : ℕ) → i < length w → x ≡ get_or w i x → has x ≡ has (last_or a has p (take (i + 1) w))
 here_more a has p w i x h e = ap has (last_more a has p w i x h e)
-
--- What is written behind a row of letters, in a vector that was grown and is cut again: whatever stands behind is lost.
-pub written_behind : (out grown slice written behind rest row new : List ℕ) (start at n : ℕ) → start ≡ length out → take (length out) grown ≡ out → slice ≡ grown →
-    start + at ≤ n → at ≤ length written → take at written ≡ row → new ≡ take (start + at) (take n ((take start slice ++ (written ++ behind)) ++ rest)) → new ≡ out ++ row
-written_behind out grown slice written behind rest row new start at n s g w fits inside r e =
-    let front : take start slice ≡ out = ap (take start) w ∙ ap (λ k. take k grown) s ∙ g in
-    e ∙ take-take (start + at) n ((take start slice ++ (written ++ behind)) ++ rest) fits
-    ∙ ap (λ v. take (start + at) ((v ++ (written ++ behind)) ++ rest)) front
-    ∙ ap (take (start + at)) (append_assoc out (written ++ behind) rest)
-    ∙ ap (λ k. take (k + at) (out ++ ((written ++ behind) ++ rest))) s
-    ∙ take-append-add out ((written ++ behind) ++ rest) at
-    ∙ ap (λ v. out ++ take at v) (append_assoc written behind rest)
-    ∙ ap (λ v. out ++ v) (take-append-le at written (behind ++ rest) inside ∙ r)
 
 -- ---- lengths
 pub cut_image_length : (a set : ℕ) (w : List ℕ) → bit_at set a ≡ 1 → bit_at set (inverse_letter a) ≡ 0 → cyclic_word w ≡ w →
     length (round_pass a (in_set set) w) ≡ length (cyclic_word (substitute (cut a set) w))
 cut_image_length a set w h o e =
-    sym (ap length (ap cyclic_word (substitute_spread a set h o w) ∙ cut_word a (in_set set) (eq-eqb (bit_at set a) 1 h) (ap (λ b. b == 1) o) w (own_reduced w e)) ∙ least_length (round_pass a (in_set set) w))
+    sym (ap length (cut_image a set w h o e) ∙ least_length (round_pass a (in_set set) w))
 
 pub step_length : (a : ℕ) (has : ℕ → Bool) (p : ℕ) (w : List ℕ) (i x : ℕ) (here : Bool) → i < length w → x ≡ get_or w i x → here ≡ has (last_or a has p (take i w)) →
     length (pass a has p (take i w)) + (length (junction_of a has here (has (inverse_letter x))) + length (kept a has x)) ≡ length (pass a has p (take (i + 1) w))

@@ -1,7 +1,9 @@
 -- What stands in a list, element by element.
-use Rattle.std.proofs.Common.{◌≡◌, ◌⊎◌, zero, suc, List, [], ◌∷◌, map, Contains, refl, ap, ◌∙◌, inl, inr, arith}
+use Rattle.std.proofs.Common.{◌≡◌, ◌⊎◌, ◌≤◌, ℕ, zero, suc, List, [], ◌∷◌, length, take, map, Contains, refl, ap, ◌∙◌, inl, inr, arith}
 use Rattle.std.proofs.lemmas.List.{length-map, get_or-map}
 use Rattle.std.proofs.lemmas.List.Elements.{Contains-append_right}
+use Rattle.std.proofs.lemmas.List.Sums.{sum_by-cons}
+use Rattle.std.specs.List.{sum_by}
 
 pub contains_none : {X : Type 0} (x : X) → Contains [] x → ⊥
 contains_none x c = omega (arith, c.1)
@@ -31,3 +33,10 @@ contains_map f (x ∷ xs) y (suc k, h, e) =
 
 pub map_contains : {X Y : Type 0} (f : X → Y) (xs : List X) (x : X) → Contains xs x → Contains (map f xs) (f x)
 map_contains f xs x c = (c.0, omega (arith, c.1, length-map xs f), get_or-map f xs c.0 x (f x) c.1 ∙ ap f c.2)
+
+-- The images of the first lists are together no longer than those of all.
+pub total_front : {X : Type 0} (f : X → List ℕ) (xs : List X) (i : ℕ) → sum_by length (map f (take i xs)) ≤ sum_by length (map f xs)
+total_front f [] zero = omega arith
+total_front f [] (suc i) = omega arith
+total_front f (x ∷ xs) zero = omega arith
+total_front f (x ∷ xs) (suc i) = omega (arith, total_front f xs i, sum_by-cons length (f x) (map f (take i xs)), sum_by-cons length (f x) (map f xs))

@@ -10,7 +10,7 @@ use Rattle.wh_words.specs.CyclicWords.{cyclic_word}
 use Rattle.wh_words.specs.Tuples.{TupleData, IsTuple, tuple_length}
 use Rattle.wh_words.specs.Words.{IsOfRank}
 use Rattle.wh_words.specs.Moves as spec
-use Rattle.wh_words.specs.Moves.{Move, IsMove, IsKind, IsCut}
+use Rattle.wh_words.specs.Moves.{Move, IsMove, IsKind}
 use Rattle.wh_words.specs.LetterSets.{in_set}
 use Rattle.wh_words.specs.Images.{swap_letter, image}
 use Rattle.wh_words.specs.Action.{substitute, act}
@@ -85,13 +85,16 @@ image_sum k (w ∷ ws) =
 pub act_length : (t : TupleData) (m : Move) → IsTuple t → tuple_length (act t m) < 2 ^ 32
 act_length t m is = omega (arith, image_sum m.kind t.words, is.short)
 
-pub act_tuple : (t : TupleData) (m : Move) → IsTuple t → IsMove m → t.rank ≡ m.rank → tuple_length (act t m) ≤ 4096 → IsTuple (act t m)
-act_tuple t m is v e short = record {
+pub acted_tuple : (t : TupleData) (m : Move) → IsTuple t → IsKind m.rank m.kind → t.rank ≡ m.rank → tuple_length (act t m) ≤ 4096 → IsTuple (act t m)
+acted_tuple t m is v e short = record {
   cyclic = All-map (λ w. cyclic_word w ≡ w) (λ w. cyclic_word (substitute m.kind w)) t.words (λ k d h. cyclic_word-same (substitute m.kind (get_or t.words k d)));
   of_rank = All-map (IsOfRank t.rank) (λ w. cyclic_word (substitute m.kind w)) t.words
       (λ k d h. cyclic_word-of_rank t.rank (substitute m.kind (get_or t.words k d))
       (subst (λ (n : ℕ). IsOfRank n (substitute m.kind (get_or t.words k d))) (sym e)
-      (substitute_of_rank m.rank m.kind (get_or t.words k d) v.kind (subst (λ (n : ℕ). IsOfRank n (get_or t.words k d)) e (is.of_rank k d h)))));
+      (substitute_of_rank m.rank m.kind (get_or t.words k d) v (subst (λ (n : ℕ). IsOfRank n (get_or t.words k d)) e (is.of_rank k d h)))));
   few = omega (arith, length-map t.words (λ w. cyclic_word (substitute m.kind w)), is.few);
   short = short;
 }
+
+pub act_tuple : (t : TupleData) (m : Move) → IsTuple t → IsMove m → t.rank ≡ m.rank → tuple_length (act t m) ≤ 4096 → IsTuple (act t m)
+act_tuple t m is v e short = acted_tuple t m is v.kind e short

@@ -12,6 +12,9 @@ pub mod ImageLetters
 pub mod CutWords
 pub mod CutImages
 pub mod Storing
+pub mod CutRows
+pub mod Complements
+pub mod ActedRows
 pub mod Mapped
 pub mod MadeOfCyclic
 pub mod MadeOfReduced

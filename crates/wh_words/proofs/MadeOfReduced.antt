@@ -2,11 +2,12 @@
 use Rattle.std.proofs.Common.{◌≡◌, ℕ, zero, suc, ◌+◌, ◌<◌, ◌≤◌, true, cond, List, [], ◌∷◌, ◌++◌, length, get_or, take, map, refl, sym, ap, ◌∙◌, subst, inl, inr, arith, length-append, length-take}
 use Rattle.std.proofs.lemmas.Bool.{cases_Bool, false≢true}
 use Rattle.std.proofs.lemmas.List.{take_all, map_more, length-map}
-use Rattle.std.proofs.lemmas.List.Sums.{sum_by_push, sum_by-cons}
+use Rattle.std.proofs.lemmas.List.Sums.{sum_by_push}
 use Rattle.std.specs.List.{sum_by}
 use Rattle.wh_words.specs.Words.{IsReduced}
 use Rattle.wh_words.specs.CyclicWords.{cyclic_word, strip_times, cyclic_core, inner, ends_cancel, IsCyclicallyReduced}
 use Rattle.wh_words.specs.Tuples.{Tuple, tuple_length, own_room, with_word}
+use Rattle.wh_words.proofs.Elements.{total_front}
 use Rattle.wh_words.proofs.FreeReduction.{front-reduced}
 use Rattle.wh_words.proofs.Turning.{Ends, ends, inner-two}
 use Rattle.wh_words.proofs.Turning.Ends.{none, one, two}
@@ -42,10 +43,7 @@ abbrev pub written_of : ℕ → List (List ℕ) → ℕ → Tuple
 written_of rank ws i = record { plain = record { rank = rank; words = map cyclic_word (take i ws) }; room = sum_by length (map cyclic_word ws); word_room = length ws }
 
 pub total_few : (ws : List (List ℕ)) (i : ℕ) → sum_by length (map cyclic_word (take i ws)) ≤ sum_by length (map cyclic_word ws)
-total_few [] zero = omega arith
-total_few [] (suc i) = omega arith
-total_few (w ∷ ws) zero = omega arith
-total_few (w ∷ ws) (suc i) = omega (arith, total_few ws i, sum_by-cons length (cyclic_word w) (map cyclic_word (take i ws)), sum_by-cons length (cyclic_word w) (map cyclic_word ws))
+total_few ws i = total_front cyclic_word ws i
 
 words_more : (ws : List (List ℕ)) (i : ℕ) (w : List ℕ) → i < length ws → w ≡ get_or ws i w → map cyclic_word (take (i + 1) ws) ≡ map cyclic_word (take i ws) ++ cyclic_word w ∷ []
 words_more ws i w h e = map_more cyclic_word ws i w h ∙ ap (λ v. map cyclic_word (take i ws) ++ cyclic_word v ∷ []) (sym e)

@@ -1,7 +1,7 @@
 -- Words whose letters are exchanged: a swap or an inversion of a cyclic word keeps it cyclically reduced.
-use Rattle.std.proofs.Common.{◌≡◌, ◌≢◌, ℕ, ◌+◌, ◌-◌, ◌/◌, ◌<◌, ◌==◌, Bool, false, cond, List, [], ◌∷◌, ◌++◌, length, get_or, take, map, refl, sym, ap, ◌∙◌, inl, inr, arith, append_assoc}
+use Rattle.std.proofs.Common.{◌≡◌, ◌≢◌, ℕ, ◌+◌, ◌-◌, ◌/◌, ◌<◌, ◌==◌, Bool, false, cond, List, [], ◌∷◌, map, refl, sym, ap, ◌∙◌, inl, inr, arith}
 use Rattle.std.proofs.lemmas.Bool.{cases_eq, true≢false, eq-eqb, ne_eqb}
-use Rattle.std.proofs.lemmas.List.{map_more, map-append}
+use Rattle.std.proofs.lemmas.List.{map-append}
 use Rattle.wh_words.specs.Letters.{inverse_letter}
 use Rattle.wh_words.specs.CyclicWords.{cyclic_word, least_rotation, ends_cancel, IsCyclicallyReduced}
 use Rattle.wh_words.specs.Words.{IsReduced}
@@ -124,8 +124,3 @@ swap_image k w h e = ap cyclic_word (swap_substitute k w) ∙ map_word (swap_let
 
 pub invert_image : (k : ℕ) (w : List ℕ) → cyclic_word w ≡ w → cyclic_word (substitute (invert k) w) ≡ least_rotation (map (invert_letter k) w)
 invert_image k w e = ap cyclic_word (invert_substitute k w) ∙ map_word (invert_letter k) (invert_turns k) (invert_apart k) w e
-
-pub map_step : (f : ℕ → ℕ) (w : List ℕ) (i x : ℕ) (start out new : List ℕ) → i < length w → x ≡ get_or w i x → out ≡ start ++ map f (take i w) → new ≡ out ++ f x ∷ [] → new ≡ start ++ map f (take (i + 1) w)
-map_step f w i x start out new h e o n =
-    n ∙ ap (λ v. v ++ f x ∷ []) o ∙ append_assoc start (map f (take i w)) (f x ∷ [])
-    ∙ ap (λ y. start ++ (map f (take i w) ++ f y ∷ [])) e ∙ ap (λ v. start ++ v) (sym (map_more f w i x h))

@@ -56,7 +56,7 @@ ends_rise_at s (e ∷ es) n zero l h = (l.0, ends_rise-le e es n l.1)
 ends_rise_at s (e ∷ es) n (suc zero) l h = ends_rise_at e es n zero l.1 (omega arith)
 ends_rise_at s (e ∷ es) n (suc (suc k)) l h = ends_rise_at e es n (suc k) l.1 (omega arith)
 
-range-length : (xs : List ℕ) (s e : ℕ) → s ≤ e → e ≤ length xs → length (slice_range xs s e) ≡ e - s
+pub range-length : (xs : List ℕ) (s e : ℕ) → s ≤ e → e ≤ length xs → length (slice_range xs s e) ≡ e - s
 range-length xs s e h k = omega (arith, length-take (e - s) (drop s xs), length-drop s xs)
 
 pub split_at-sum : (s : ℕ) (es xs : List ℕ) → EndsRise s es (length xs) → sum_by length (split_at s es xs) + s ≡ length xs

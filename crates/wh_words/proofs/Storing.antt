@@ -1,6 +1,7 @@
 -- Words that are written into a row.
 use Rattle.std.proofs.Common.{◌≡◌, ℕ, ◌+◌, ◌-◌, ◌<◌, ◌≤◌, List, [], ◌∷◌, ◌++◌, length, take, drop, refl, sym, ap, ◌∙◌, subst, arith, length-append, length-take, length-drop}
-use Rattle.std.proofs.lemmas.List.{drop_at, take_at}
+use Rattle.std.proofs.Math.Seq.{take-append-add}
+use Rattle.std.proofs.lemmas.List.{drop_at, take_at, drop-take, take-take}
 use Rattle.std.proofs.lemmas.List.Elements.{All-nil, All-cons, All-append}
 use Rattle.std.proofs.lemmas.List.Sums.{sum_by_push}
 use Rattle.wh_words.specs.CyclicWords.{cyclic_word, least_rotation}
@@ -19,6 +20,20 @@ end_split es xs s l h =
     let whole : length xs ≡ length (take s xs) + length (least_rotation (drop s xs)) = omega (arith, front, back) in
     ap (λ n. split_at 0 (es ++ n ∷ []) (take s xs ++ least_rotation (drop s xs))) whole
     ∙ split_at-push 0 es (take s xs) (least_rotation (drop s xs)) (subst (EndsRise 0 es) (sym front) l)
+
+-- a word in the middle of a row that is turned to its least rotation
+pub turned_between : (xs new rest : List ℕ) (start end : ℕ) → start ≤ end → end ≤ length xs → new ≡ least_rotation (take (end - start) (drop start xs)) →
+    take end (take start xs ++ (new ++ rest)) ≡ take start (take end xs) ++ least_rotation (drop start (take end xs))
+turned_between xs new rest start end h l e =
+    let whole : start + (end - start) ≡ end = omega arith in
+    let front : length (take start xs) ≡ start = omega (arith, length-take start xs) in
+    let middle : length new ≡ end - start = ap length e ∙ least_length (take (end - start) (drop start xs)) ∙ omega (arith, length-take (end - start) (drop start xs), length-drop start xs) in
+    let both : length (take start xs) + length new ≡ end = omega (arith, front, middle, whole) in
+    ap (λ n. take n (take start xs ++ (new ++ rest))) (sym both)
+    ∙ take-append-add (take start xs) (new ++ rest) (length new)
+    ∙ ap (λ v. take start xs ++ v) (take_at new rest (length new) refl ∙ e)
+    ∙ ap (λ v. take start xs ++ least_rotation v) (sym (ap (λ n. drop start (take n xs)) (sym whole) ∙ drop-take start (end - start) xs))
+    ∙ ap (λ v. v ++ least_rotation (drop start (take end xs))) (sym (take-take start end xs h))
 
 pub end_length : (xs : List ℕ) (s : ℕ) → s ≤ length xs → length (take s xs ++ least_rotation (drop s xs)) ≡ length xs
 end_length xs s h = omega (arith, length-append (take s xs) (least_rotation (drop s xs)), least_length (drop s xs), length-drop s xs, length-take s xs, h)

@@ -1,5 +1,9 @@
 -- How a tuple keeps its words: all letters in one run, and the places where words end in another.
-use Rattle.std.specs.Prelude.{◌≡◌, ℕ, zero, suc, get_or, ◌≤◌, List, [], ◌∷◌, length, slice_range}
+use Rattle.std.specs.Prelude.{◌≡◌, ℕ, zero, suc, get_or, ◌<◌, ◌≤◌, List, [], ◌∷◌, length, map, take, slice_range}
+use Rattle.std.specs.List.{sum_by}
+use Rattle.wh_words.specs.CyclicWords.{cyclic_word}
+use Rattle.wh_words.specs.Action.{substitute}
+use Rattle.wh_words.specs.Moves.Kind.{cut}
 use Rattle.wh_words.specs.Tuples.{Tuple, IsRoomed}
 
 -- The words of a run of letters, from a place on, by where they end.
@@ -27,3 +31,10 @@ pub record IsStored (rank : ℕ) (ends letters : List ℕ) (room word_room most 
   pub laid : EndsRise 0 ends (length letters)
   pub held : room ≤ most
   pub held_words : word_room ≤ most_words
+
+-- The first k words of a run of letters have their images under a cut at the front of another run, up to a place, with their ends in another.
+pub record AreWritten (mult set : ℕ) (ends letters : List ℕ) (k at : ℕ) (marks out : List ℕ) : Type 0 where
+  pub within : at < length out
+  pub words : split_at 0 (take k marks) (take at out) ≡ map (λ w. cyclic_word (substitute (cut mult set) w)) (take k (split_at 0 ends letters))
+  pub laid : EndsRise 0 (take k marks) at
+  pub total : at ≡ sum_by length (map (λ w. cyclic_word (substitute (cut mult set) w)) (take k (split_at 0 ends letters)))

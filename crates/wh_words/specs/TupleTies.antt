@@ -21,7 +21,7 @@ same_from_tied s t e =
     ap (λ (n : ℕ). record { rank = n; words = s.words }) (nat_cmp-IsAntisymmetric s.rank t.rank both.0)
     ∙ ap (λ (ws : List (List ℕ)). record { rank = t.rank; words = ws }) (slice_cmp-IsAntisymmetric (slice_cmp-IsAntisymmetric nat_cmp-IsAntisymmetric) s.words t.words both.1)
 
-equal_then_tied : (o : Ordering) → IsTrue (is_eq o) → o ≡ Equal
+pub equal_then_tied : (o : Ordering) → IsTrue (is_eq o) → o ≡ Equal
 equal_then_tied Less h = absurd (false≢true h)
 equal_then_tied Equal h = refl
 equal_then_tied Greater h = absurd (false≢true h)

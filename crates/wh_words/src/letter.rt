@@ -73,18 +73,12 @@ impl Letter {
     }
 
     /// The inverse letter.
-    #[tactic(auto, unfolding(crate::specs::Letters::inverse_letter))]
+    #[tactic(auto, using(crate::proofs::Masks::xor_one))]
     pub fn inverse(self) -> Letter
         ensures { result ≡ inverse_letter self }
     {
-        if self.index % 2 == 0 {
-            Letter {
-                index: self.index + 1,
-            }
-        } else {
-            Letter {
-                index: self.index - 1,
-            }
+        Letter {
+            index: self.index ^ 1,
         }
     }
 

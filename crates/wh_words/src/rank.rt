@@ -37,6 +37,15 @@ impl Rank {
         }
     }
 
+    /// The rank of a number from 1 to 26.
+    pub fn of_number(number: u8) -> Rank
+        requires least { 0 < number }
+        requires greatest { number ≤ most_rank }
+        ensures { result ≡ number }
+    {
+        Rank { number }
+    }
+
     /// The rank as a number.
     pub fn get(self) -> u8
         ensures same { result ≡ self }

@@ -1,26 +1,22 @@
 //! Tuples of cyclic words.
-ghost use Rattle.std.specs.Prelude.{◌≡◌, ◌≢◌, ◌+◌, ◌<◌, ◌≤◌, [], ◌∷◌, ◌++◌, length, map, slice_index_or, IfOk, IsOk};
+ghost use Rattle.std.specs.Prelude.{◌≡◌, ◌≢◌, true, ◌+◌, ◌<◌, ◌≤◌, [], length, map, slice_index_or, IfOk, IsOk};
 ghost use Rattle.std.specs.List.{All, sum_by, concat};
 ghost use Rattle.std.specs.Bool.{MatchBool};
 ghost use Rattle.wh_words.specs.Limits.{most_rank, most_words, most_letters};
 ghost use Rattle.wh_words.specs.Words.{IsOfRank};
 ghost use Rattle.wh_words.specs.CyclicWords.{cyclic_word, IsCyclicallyReduced};
-ghost use Rattle.wh_words.specs.Tuples.{tuple_cmp, tuple_length, IsRoomed, own_room, without_words, with_word, HasLetterRoom, HasWordRoom};
-ghost use Rattle.wh_words.specs.Storage.{EndsRise, split_at, start_at};
-ghost use Rattle.wh_words.specs.Moves.{IsCut, IsKind};
-ghost use Rattle.wh_words.specs.Action.{substitute};
-ghost use Rattle.wh_words.specs.Moves.Kind.{swap, invert, cut};
+ghost use Rattle.wh_words.specs.Tuples.{tuple_cmp, tuple_length, IsRoomed, own_room, in_rooms_of, without_words, with_word, HasLetterRoom, HasWordRoom};
+ghost use Rattle.wh_words.specs.Moves.{IsCut, IsKind, cut_move};
+ghost use Rattle.wh_words.specs.Action.{act, substitute};
+ghost use Rattle.wh_words.specs.Moves.Kind.{swap, invert};
 
 use crate::cyclic_word::{CyclicWord, strip_ends};
 use crate::error::OutOfMemory;
-use crate::inline::INLINE;
 use crate::letter::Letter;
 use crate::letter_set::LetterSet;
-use crate::pass::push_pass;
 use crate::rank::Rank;
-use crate::storage::{INLINE_WORDS, end_word, push_inverted, push_letters, push_swapped};
+use crate::storage::{EndRun, LetterRun, end_word, fill_cuts, word_in};
 use crate::word::Word;
-use smallvec::SmallVec;
 use std::alloc::Global;
 use std::cmp::Ordering;
 use std::marker::Model;
@@ -31,8 +27,8 @@ use std::marker::Model;
 #[derive(Debug, Drop)]
 pub struct Tuple {
     rank: Rank,
-    letters: SmallVec<Letter, INLINE>,
-    ends: SmallVec<u16, INLINE_WORDS>,
+    letters: LetterRun,
+    ends: EndRun,
     room: usize,
     word_room: usize,
 }
@@ -46,29 +42,6 @@ impl Model for Tuple {
     ghost view = { λ t. tuple_of t.rank t.ends.items t.letters.items t.room t.word_room };
 
     ghost invariant = { λ t. IsStored t.rank t.ends.items t.letters.items t.room t.word_room t.letters.capacity t.ends.capacity };
-}
-
-/// Where the word at a place begins.
-#[tactic(auto, using(crate::proofs::StoredWords::start_more))]
-fn start_of(ends: &[u16], place: usize) -> usize
-    requires { place ≤ length ends.now }
-    ensures { result ≡ start_at 0 ends.now place }
-{
-    if place == 0 {
-        0
-    } else {
-        ends[place - 1] as usize
-    }
-}
-
-/// The word at a place.
-#[tactic(auto, using(crate::proofs::StoredWords::split_at_get, crate::proofs::StoredWords::ends_rise_at))]
-fn word_in<'a>(letters: &'a [Letter], ends: &[u16], place: usize) -> &'a [Letter]
-    requires laid { EndsRise 0 ends.now (length letters.now) }
-    requires within { place < length ends.now }
-    ensures { result.now ≡ slice_index_or (split_at 0 ends.now letters.now) place [] }
-{
-    &letters[start_of(ends, place)..ends[place] as usize]
 }
 
 /// The letters of all words.
@@ -93,6 +66,25 @@ fn total_core(words: &[Word]) -> usize
         total += strip_ends(word.letters()).len();
     }
     total
+}
+
+/// Whether two rows have the same rank, ends and letters.
+#[tactic(auto, using(crate::proofs::SameTuples::slices_same, crate::proofs::SameTuples::slices_equal))]
+fn are_same(
+    rank: u8,
+    other_rank: u8,
+    ends: &[u16],
+    other_ends: &[u16],
+    letters: &[Letter],
+    other_letters: &[Letter],
+) -> bool
+    ensures same { result ≡ true → (rank ≡ other_rank) × (ends.now ≡ other_ends.now) × (letters.now ≡ other_letters.now) }
+    ensures apart { rank ≡ other_rank → ends.now ≡ other_ends.now → letters.now ≡ other_letters.now → result ≡ true }
+{
+    if rank != other_rank || ends != other_ends {
+        return false;
+    }
+    letters == other_letters
 }
 
 impl Tuple {
@@ -167,8 +159,8 @@ impl Tuple {
     {
         Ok(Tuple {
             rank,
-            letters: SmallVec::with_capacity(alloc, letters)?,
-            ends: SmallVec::with_capacity(alloc, words)?,
+            letters: LetterRun::with_room(alloc, letters)?,
+            ends: EndRun::with_room(alloc, words)?,
             room: letters,
             word_room: words,
         })
@@ -207,7 +199,7 @@ impl Tuple {
         ensures value { result.now ≡ slice_index_or self.now.plain.words place [] }
         ensures roomed { IsRoomed self.now }
     {
-        word_in(&self.letters, &self.ends, place)
+        word_in(self.letters.as_slice(), self.ends.as_slice(), place)
     }
 
     /// The letters of all words in one row.
@@ -239,8 +231,8 @@ impl Tuple {
         ensures same { IfOk result (λ t. t ≡ own_room self.now.plain) }
         ensures succeeds { length self.now.plain.words ≤ 4 → tuple_length self.now.plain ≤ 16 → IsOk result }
     {
-        let letters = SmallVec::from_slice(alloc, &self.letters)?;
-        let ends = SmallVec::from_slice(alloc, &self.ends)?;
+        let letters = self.letters.copy(alloc)?;
+        let ends = self.ends.copy(alloc)?;
         let room = letters.len();
         let word_room = ends.len();
         Ok(Tuple {
@@ -271,24 +263,9 @@ impl Tuple {
         self.ends.clear();
     }
 
-    /// Writes the image of a cyclic word under a cut of the rank after the words. It has to fit; the rooms stay. The cut
-    /// acts in one pass (Lyndon and Schupp, I.4).
-    pub fn push_cut(&mut self, word: &[Letter], mult: Letter, set: LetterSet)
-        requires own { cyclic_word word.now ≡ word.now }
-        requires of_rank { IsOfRank self.old.plain.rank word.now }
-        requires is_cut { IsCut self.old.plain.rank mult set }
-        requires letters { HasLetterRoom self.old (length (cyclic_word (substitute (cut mult set) word.now))) }
-        requires place { HasWordRoom self.old }
-        ensures { self.new ≡ with_word self.old (cyclic_word (substitute (cut mult set) word.now)) }
-    {
-        let start = self.letters.len();
-        push_pass(&mut self.letters, word, mult, set);
-        end_word(&mut self.letters, &mut self.ends, start);
-    }
-
     /// Writes the image of a cyclic word under the swap of generators `k` and `k + 1` after the words. It has to fit; the
     /// rooms stay.
-    pub fn push_swap(&mut self, word: &[Letter], k: u8)
+    fn push_swap(&mut self, word: &[Letter], k: u8)
         requires own { cyclic_word word.now ≡ word.now }
         requires of_rank { IsOfRank self.old.plain.rank word.now }
         requires is_swap { IsKind self.old.plain.rank (swap k) }
@@ -298,13 +275,13 @@ impl Tuple {
         ensures { self.new ≡ with_word self.old (cyclic_word (substitute (swap k) word.now)) }
     {
         let start = self.letters.len();
-        push_swapped(&mut self.letters, word, k);
+        self.letters.push_swapped(word, k);
         end_word(&mut self.letters, &mut self.ends, start);
     }
 
     /// Writes the image of a cyclic word under the inversion of generator `k` after the words. It has to fit; the rooms
     /// stay.
-    pub fn push_invert(&mut self, word: &[Letter], k: u8)
+    fn push_invert(&mut self, word: &[Letter], k: u8)
         requires own { cyclic_word word.now ≡ word.now }
         requires of_rank { IsOfRank self.old.plain.rank word.now }
         requires is_invert { IsKind self.old.plain.rank (invert k) }
@@ -313,8 +290,55 @@ impl Tuple {
         ensures { self.new ≡ with_word self.old (cyclic_word (substitute (invert k) word.now)) }
     {
         let start = self.letters.len();
-        push_inverted(&mut self.letters, word, k);
+        self.letters.push_inverted(word, k);
         end_word(&mut self.letters, &mut self.ends, start);
+    }
+
+    /// Makes this the tuple after the swap of generators `k` and `k + 1`, and keeps the rooms, in which it has to fit.
+    #[tactic(auto, using(crate::proofs::ActedRows::image_place, crate::proofs::ActedRows::image_more))]
+    pub fn become_swapped(&mut self, tuple: &Tuple, k: u8)
+        requires is_swap { IsKind tuple.now.plain.rank (swap k) }
+        requires letters { tuple_length (act tuple.now.plain (record { rank = tuple.now.plain.rank; kind = swap k })) ≤ self.old.room }
+        requires words { length tuple.now.plain.words ≤ self.old.word_room }
+        ensures { self.new ≡ in_rooms_of self.old (act tuple.now.plain (record { rank = tuple.now.plain.rank; kind = swap k })) }
+    {
+        self.clear(tuple.rank());
+        for place in 0..tuple.count() {
+            self.push_swap(tuple.word(place), k);
+        }
+    }
+
+    /// Makes this the tuple after the inversion of generator `k`, and keeps the rooms, in which it has to fit.
+    #[tactic(auto, using(crate::proofs::ActedRows::image_place, crate::proofs::ActedRows::image_more))]
+    pub fn become_inverted(&mut self, tuple: &Tuple, k: u8)
+        requires is_invert { IsKind tuple.now.plain.rank (invert k) }
+        requires letters { tuple_length (act tuple.now.plain (record { rank = tuple.now.plain.rank; kind = invert k })) ≤ self.old.room }
+        requires words { length tuple.now.plain.words ≤ self.old.word_room }
+        ensures { self.new ≡ in_rooms_of self.old (act tuple.now.plain (record { rank = tuple.now.plain.rank; kind = invert k })) }
+    {
+        self.clear(tuple.rank());
+        for place in 0..tuple.count() {
+            self.push_invert(tuple.word(place), k);
+        }
+    }
+
+    /// Makes this the tuple after a cut of its rank, and keeps the rooms, in which it has to fit. The cut acts in one pass
+    /// round each word (Lyndon and Schupp, I.4), and since nearly all moves of a level are cuts, on all words at once.
+    pub fn become_cut(&mut self, tuple: &Tuple, mult: Letter, set: LetterSet)
+        requires is_cut { IsCut tuple.now.plain.rank mult set }
+        requires letters { tuple_length (act tuple.now.plain (cut_move tuple.now.plain.rank mult set)) ≤ self.old.room }
+        requires words { length tuple.now.plain.words ≤ self.old.word_room }
+        ensures { self.new ≡ in_rooms_of self.old (act tuple.now.plain (cut_move tuple.now.plain.rank mult set)) }
+    {
+        self.rank = tuple.rank;
+        fill_cuts(
+            &mut self.letters,
+            &mut self.ends,
+            tuple.letters.as_slice(),
+            tuple.ends.as_slice(),
+            mult,
+            set,
+        );
     }
 
     /// Writes the cyclic word of a cyclically reduced word after the words. It has to fit; the rooms stay.
@@ -326,15 +350,21 @@ impl Tuple {
         ensures { self.new ≡ with_word self.old (cyclic_word word.now) }
     {
         let start = self.letters.len();
-        push_letters(&mut self.letters, word);
+        self.letters.push_letters(word);
         end_word(&mut self.letters, &mut self.ends, start);
     }
 
     /// Whether the ranks and the words are the same, whatever the rooms are.
-    #[tactic(auto, using(crate::proofs::SameTuples::same_match))]
     pub fn same(&self, other: &Tuple) -> bool
         ensures { MatchBool result (self.now.plain ≡ other.now.plain) (self.now.plain ≢ other.now.plain) }
     {
-        self.compared(other).is_eq()
+        are_same(
+            self.rank.get(),
+            other.rank.get(),
+            self.ends.as_slice(),
+            other.ends.as_slice(),
+            self.letters.as_slice(),
+            other.letters.as_slice(),
+        )
     }
 }

@@ -1,5 +1,4 @@
 //! Equality, order and hash of tuples: those of their ranks and words, whatever their rooms are. None takes memory.
-ghost use Rattle.std.specs.Prelude.{◌≡◌, ◌==◌};
 ghost use Rattle.std.specs.Cmp.{partial_order_from_own_ties};
 ghost use Rattle.std.specs.Cmp.Rules.{comparing};
 ghost use Rattle.std.specs.Ordering.{as_partial_cmp, eq_by_cmp};
@@ -17,8 +16,9 @@ impl PartialEq for Tuple {
 
     ghost laws = { Prim.search (comparing, tuple_order_total, rules) };
 
+    #[tactic(auto, using(crate::proofs::SameTuples::same_is_tied))]
     fn eq(&self, other: &Tuple) -> bool {
-        self.compared(other).is_eq()
+        self.same(other)
     }
 }
 

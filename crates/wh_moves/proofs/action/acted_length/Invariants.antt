@@ -1,6 +1,6 @@
 use Rattle.std.proofs.Common.{◌≡◌}
 use Rattle.wh_words.specs.Tuples.{tuple_length}
-use Rattle.wh_moves.proofs.ActedWords.{acted}
+use Rattle.wh_words.proofs.ActedRows.{acted}
 use Rattle.wh_moves.proofs.action.acted_length.Given as goal
 
 abbrev pub invariant-loop-place : goal.invariant-loop-place

@@ -1,26 +1,12 @@
-use Rattle.std.proofs.Common.{ℕ, sym, subst}
-use Rattle.wh_words.specs.Letters.{inverse_letter}
-use Rattle.wh_words.specs.Moves.{IsKind}
-use Rattle.wh_words.specs.Moves.Kind.{cut}
-use Rattle.wh_moves.specs.declared.moves.Kind.{Kind}
-use Rattle.wh_moves.specs.Kinds.{kind_of}
-use Rattle.wh_moves.proofs.InverseMoves.{inverse_is_kind}
+use Rattle.std.proofs.Common.{arith, ◌∙◌}
+use Rattle.wh_moves.proofs.PackedOrder.{turned_fits, turned_is_move}
 use Rattle.wh_moves.proofs.moves.Move.inverse.Goals as goal
-use Rattle.wh_moves.proofs.moves.Move.inverse.Goals.{in-Cut, in_default}
+
+pub packed-requires-clause-rest : goal.packed-requires-clause-rest
+packed-requires-clause-rest c =
+    omega (arith, c.bits.ensures, turned_fits c.args.self.now c.in-Cut.mult c.in-Cut.set c.turned.result c.kind.ensures.valid c.in-Cut.ensures.kind c.turned.ensures)
 
 pub invariant_of-result : goal.invariant_of-result
 invariant_of-result c =
-    let n : ℕ = c.self.inside.rank in
-    elim c.match-self.branch [
-      | in-Cut w ↦ record {
-        rank = c.self.invariant.rank;
-        kind = subst (λ (k : Kind). IsKind n (kind_of k)) (sym w.kind-is)
-            (subst (λ (b : ℕ). IsKind n (cut b w.turned.result)) (sym w.inverse.ensures)
-            (subst (λ (s : ℕ). IsKind n (cut (inverse_letter w.in-Cut.mult) s)) (sym w.turned.ensures)
-            (inverse_is_kind n (cut w.in-Cut.mult w.in-Cut.set) (subst (λ (k : Kind). IsKind n (kind_of k)) w.in-Cut.is c.self.invariant.kind))));
-      }
-      | in_default w ↦ record {
-        rank = c.self.invariant.rank;
-        kind = subst (λ (k : Kind). IsKind n (kind_of k)) (sym w.kind-is) c.self.invariant.kind;
-      }
-    ]
+    turned_is_move c.args.self.now c.packed.result c.rank.result c.in-Cut.mult c.in-Cut.set c.inverse.result c.bits.result _ c.kind.ensures.valid c.in-Cut.ensures.kind c.rank.ensures.rank
+    c.inverse.ensures (c.bits.ensures ∙ c.turned.ensures) (omega arith) c.packed.ensures

@@ -47,9 +47,9 @@ invariant_of-self c =
     let w : List ℕ = cyclic_word (substitute (swap c.args.k) c.args.word.now) in
     let is : w ≡ least_rotation (map (swap_letter c.args.k) c.args.word.now) = swap_image c.args.k c.args.word.now c.requires.is_swap.0 c.requires.own in
     let xs : c.end_word.new.letters.items ≡ c.self.inside.letters.items ++ w =
-    word_written c.self.inside.letters.items (map (swap_letter c.args.k) c.args.word.now) w c.push_swapped.new.out.items c.end_word.new.letters.items c.len-start.result c.len-start.ensures.value c.push_swapped.ensures.items c.end_word.ensures.items is in
+    word_written c.self.inside.letters.items (map (swap_letter c.args.k) c.args.word.now) w c.push_swapped.new.self.items c.end_word.new.letters.items c.len-start.result c.len-start.ensures.value c.push_swapped.ensures.items c.end_word.ensures.items is in
     let es : c.end_word.new.ends.items ≡ c.self.inside.ends.items ++ (length c.self.inside.letters.items + length w) ∷ [] =
-    end_written c.self.inside.letters.items (map (swap_letter c.args.k) c.args.word.now) w c.push_swapped.new.out.items c.self.inside.ends.items c.end_word.new.ends.items c.push_swapped.ensures.items is c.end_word.ensures.ends in
+    end_written c.self.inside.letters.items (map (swap_letter c.args.k) c.args.word.now) w c.push_swapped.new.self.items c.self.inside.ends.items c.end_word.new.ends.items c.push_swapped.ensures.items is c.end_word.ensures.ends in
     let rank : c.self.inside.rank ≡ c.args.self.now.plain.rank = ap (λ (u : Tuple). u.plain.rank) c.self.view_is in
     let kind : IsKind c.args.self.now.plain.rank (swap c.args.k) = c.requires.is_swap in
     row_same c.self.inside.rank (c.self.inside.ends.items ++ (length c.self.inside.letters.items + length w) ∷ []) (c.self.inside.letters.items ++ w) c.end_word.new.ends.items c.end_word.new.letters.items
@@ -66,5 +66,5 @@ returns c =
     let w : List ℕ = cyclic_word (substitute (swap c.args.k) c.args.word.now) in
     let is : w ≡ least_rotation (map (swap_letter c.args.k) c.args.word.now) = swap_image c.args.k c.args.word.now c.requires.is_swap.0 c.requires.own in
     row_view c.self.inside.rank c.self.inside.ends.items c.self.inside.letters.items c.end_word.new.ends.items c.end_word.new.letters.items w c.self.inside.room c.self.inside.word_room c.args.self.now c.self.invariant.laid c.self.view_is
-    (end_written c.self.inside.letters.items (map (swap_letter c.args.k) c.args.word.now) w c.push_swapped.new.out.items c.self.inside.ends.items c.end_word.new.ends.items c.push_swapped.ensures.items is c.end_word.ensures.ends)
-    (word_written c.self.inside.letters.items (map (swap_letter c.args.k) c.args.word.now) w c.push_swapped.new.out.items c.end_word.new.letters.items c.len-start.result c.len-start.ensures.value c.push_swapped.ensures.items c.end_word.ensures.items is)
+    (end_written c.self.inside.letters.items (map (swap_letter c.args.k) c.args.word.now) w c.push_swapped.new.self.items c.self.inside.ends.items c.end_word.new.ends.items c.push_swapped.ensures.items is c.end_word.ensures.ends)
+    (word_written c.self.inside.letters.items (map (swap_letter c.args.k) c.args.word.now) w c.push_swapped.new.self.items c.end_word.new.letters.items c.len-start.result c.len-start.ensures.value c.push_swapped.ensures.items c.end_word.ensures.items is)

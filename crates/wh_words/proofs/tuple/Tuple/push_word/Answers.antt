@@ -39,9 +39,9 @@ invariant_of-self c =
     let w : List ℕ = cyclic_word c.args.word.now in
     let is : w ≡ least_rotation c.args.word.now = reduced_image c.args.word.now c.requires.reduced in
     let xs : c.end_word.new.letters.items ≡ c.self.inside.letters.items ++ w =
-    word_written c.self.inside.letters.items c.args.word.now w c.push_letters.new.out.items c.end_word.new.letters.items c.len-start.result c.len-start.ensures.value c.push_letters.ensures.items c.end_word.ensures.items is in
+    word_written c.self.inside.letters.items c.args.word.now w c.push_letters.new.self.items c.end_word.new.letters.items c.len-start.result c.len-start.ensures.value c.push_letters.ensures.items c.end_word.ensures.items is in
     let es : c.end_word.new.ends.items ≡ c.self.inside.ends.items ++ (length c.self.inside.letters.items + length w) ∷ [] =
-    end_written c.self.inside.letters.items c.args.word.now w c.push_letters.new.out.items c.self.inside.ends.items c.end_word.new.ends.items c.push_letters.ensures.items is c.end_word.ensures.ends in
+    end_written c.self.inside.letters.items c.args.word.now w c.push_letters.new.self.items c.self.inside.ends.items c.end_word.new.ends.items c.push_letters.ensures.items is c.end_word.ensures.ends in
     let rank : c.self.inside.rank ≡ c.args.self.now.plain.rank = ap (λ (u : Tuple). u.plain.rank) c.self.view_is in
     row_same c.self.inside.rank (c.self.inside.ends.items ++ (length c.self.inside.letters.items + length w) ∷ []) (c.self.inside.letters.items ++ w) c.end_word.new.ends.items c.end_word.new.letters.items
     c.self.inside.room c.self.inside.word_room c.self.inside.letters.capacity c.self.inside.ends.capacity c.end_word.new.letters.capacity c.end_word.new.ends.capacity
@@ -57,5 +57,5 @@ returns c =
     let w : List ℕ = cyclic_word c.args.word.now in
     let is : w ≡ least_rotation c.args.word.now = reduced_image c.args.word.now c.requires.reduced in
     row_view c.self.inside.rank c.self.inside.ends.items c.self.inside.letters.items c.end_word.new.ends.items c.end_word.new.letters.items w c.self.inside.room c.self.inside.word_room c.args.self.now c.self.invariant.laid c.self.view_is
-    (end_written c.self.inside.letters.items c.args.word.now w c.push_letters.new.out.items c.self.inside.ends.items c.end_word.new.ends.items c.push_letters.ensures.items is c.end_word.ensures.ends)
-    (word_written c.self.inside.letters.items c.args.word.now w c.push_letters.new.out.items c.end_word.new.letters.items c.len-start.result c.len-start.ensures.value c.push_letters.ensures.items c.end_word.ensures.items is)
+    (end_written c.self.inside.letters.items c.args.word.now w c.push_letters.new.self.items c.self.inside.ends.items c.end_word.new.ends.items c.push_letters.ensures.items is c.end_word.ensures.ends)
+    (word_written c.self.inside.letters.items c.args.word.now w c.push_letters.new.self.items c.end_word.new.letters.items c.len-start.result c.len-start.ensures.value c.push_letters.ensures.items c.end_word.ensures.items is)

@@ -59,9 +59,9 @@ module _ (n a set other : ℕ) (is : IsCut n a set) (turned : IsCut n (inverse_l
   turned_words (w ∷ ws) own of_rank =
       let mine : cyclic_word w ≡ w = All-head (λ v. cyclic_word v ≡ v) w ws own in
       ap (λ v. v ∷ map (λ u. cyclic_word (substitute (cut (inverse_letter a) other) u)) ws)
-      (cut_image n (inverse_letter a) other w turned mine
+      (cut_image (inverse_letter a) other w turned.holds turned.omits mine
       ∙ ap least_rotation (turned_round a (in_set set) (in_set other) n flips w (All-head (IsOfRank n) w ws of_rank))
-      ∙ sym (cut_image n a set w is mine))
+      ∙ sym (cut_image a set w is.holds is.omits mine))
       ∙ ap (λ vs. cyclic_word (substitute (cut a set) w) ∷ vs) (turned_words ws (All-tail (λ v. cyclic_word v ≡ v) w ws own) (All-tail (IsOfRank n) w ws of_rank))
 
 pub turned_acts : (t : TupleData) (a set other : ℕ) → IsTuple t → IsCut t.rank a set → IsCut t.rank (inverse_letter a) other →

@@ -1,0 +1,10 @@
+use Rattle.std.proofs.Common.{◌≡◌, ◌+◌, ◌++◌, length, map, take}
+use Rattle.wh_words.specs.Images.{invert_letter}
+use Rattle.wh_words.proofs.storage.write_inverted.Given as goal
+
+abbrev pub invariant-loop-x : goal.invariant-loop-x
+invariant-loop-x l = record {
+  written : take l.next l.out ≡ take l.fn.at l.initial.out ++ map (invert_letter l.k) (take l.x-index l.word);
+  place : l.next ≡ l.fn.at + l.x-index;
+  same_length : length l.out ≡ length l.initial.out;
+}

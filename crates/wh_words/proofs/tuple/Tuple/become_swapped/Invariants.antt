@@ -1,0 +1,8 @@
+use Rattle.std.proofs.Common.{◌≡◌}
+use Rattle.wh_words.specs.Tuples.{in_rooms_of}
+use Rattle.wh_words.specs.Moves.Kind.{swap}
+use Rattle.wh_words.proofs.ActedRows.{acted}
+use Rattle.wh_words.proofs.tuple.Tuple.become_swapped.Given as goal
+
+abbrev pub invariant-loop-place : goal.invariant-loop-place
+invariant-loop-place l = l.self ≡ in_rooms_of l.initial.self (acted l.tuple.plain (record { rank = l.tuple.plain.rank; kind = swap l.k }) l.place)
