@@ -6,6 +6,9 @@ pub mod Cells
 pub mod Entries
 pub mod NetEdges
 pub mod Pushes
+pub mod Ways
+pub mod NotedWays
+pub mod FreshLetters
 pub mod Searching
 pub mod Reached
 pub mod Rounds

@@ -3,3 +3,4 @@ pub mod Laws
 -- How this crate searches for flows.
 pub mod Rerouting
 pub mod Searches
+pub mod Residuals

@@ -51,6 +51,14 @@ pub record IsLed (cap flow : List ℕ) (seen v x : ℕ) : Type 0 where
 abbrev pub IsShut : List ℕ → List ℕ → ℕ → (ℕ → Bool) → Type 0
 IsShut cap flow from set = (x y : ℕ) → x < 52 → y < 52 → set x ≡ true → 0 < room cap flow from x y → set y ≡ true
 
+-- A letter of a set that wasn't seen.
+abbrev pub IsFresh : ℕ → ℕ → ℕ → Type 0
+IsFresh set seen y = (y < 64) × ((in_set set y ≡ true) × (in_set seen y ≡ false))
+
+-- All letters of a set were seen.
+abbrev pub IsAllSeen : ℕ → ℕ → Type 0
+IsAllSeen set seen = (y : ℕ) → y < 64 → in_set set y ≡ true → in_set seen y ≡ true
+
 -- The search from v didn't find t: what it saw is what v leads to.
 pub record IsSearched (cap flow : List ℕ) (old new from v t : ℕ) : Type 0 where
   pub start : in_set new v ≡ true
@@ -58,10 +66,9 @@ pub record IsSearched (cap flow : List ℕ) (old new from v t : ℕ) : Type 0 wh
   pub shut : (x : ℕ) → x < 52 → in_set old x ≡ false → in_set new x ≡ true → (y : ℕ) → y < 52 → 0 < room cap flow from x y → in_set new y ≡ true
   pub least : (set : ℕ → Bool) → set v ≡ true → IsShut cap flow from set → (x : ℕ) → x < 52 → in_set old x ≡ false → in_set new x ≡ true → set x ≡ true
 
--- The same before the edges from v to the letters from y on.
-pub record IsSearching (cap flow : List ℕ) (old now from v t y : ℕ) : Type 0 where
+-- The same before the edges from v are all tried.
+pub record IsSearching (cap flow : List ℕ) (old now from v t : ℕ) : Type 0 where
   pub start : in_set now v ≡ true
   pub omits : in_set old t ≡ false → in_set now t ≡ false
-  pub row : (z : ℕ) → z < y → z < 52 → 0 < room cap flow from v z → in_set now z ≡ true
   pub shut : (x : ℕ) → x < 52 → x ≢ v → in_set old x ≡ false → in_set now x ≡ true → (z : ℕ) → z < 52 → 0 < room cap flow from x z → in_set now z ≡ true
   pub least : (set : ℕ → Bool) → set v ≡ true → IsShut cap flow from set → (x : ℕ) → x < 52 → in_set old x ≡ false → in_set now x ≡ true → set x ≡ true

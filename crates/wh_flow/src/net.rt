@@ -1,30 +1,34 @@
 //! Networks: how many edges join each two letters.
-ghost use Rattle.std.specs.Prelude.{◌≡◌, ◌≢◌, ℕ, ◌+◌, ◌*◌, ◌<◌, ◌≤◌, cond, length, replicate};
+ghost use Rattle.std.specs.Prelude.{◌≡◌, ◌≢◌, ℕ, ◌+◌, ◌*◌, ◌<◌, ◌≤◌, ◌⊎◌, true, cond, length, get_or, replicate};
+ghost use Rattle.wh_words.specs.LetterSets.{in_set};
 ghost use Rattle.wh_words.specs.Edges.{joins};
 ghost use Rattle.wh_flow.specs.Nets.{cell, edge_count, IsNet};
 ghost use Rattle.wh_flow.specs.Searches.{IsOfLetters};
+ghost use Rattle.wh_flow.specs.Residuals.{AreNear};
 
 use std::marker::Model;
-use wh_words::{Letter, Rank};
+use wh_words::{Letter, LetterSet, Rank};
 
 /// A network on the letters of a rank: the number of edges between each two letters. Edges have no direction, join two
 /// different letters, and there are at most 4,096 of them. Contracts see the rank and the table of these numbers, row by
-/// row.
+/// row. The letters that edges join to each letter are kept as a mask too.
 #[derive(Drop, Clone)]
 pub struct Net {
     rank: Rank,
     cells: [u32; 2704],
+    near: [u64; 52],
 }
 
 impl Model for Net {
     ghost use Rattle.wh_flow.specs.Nets.{IsNet};
     ghost use Rattle.wh_flow.specs.Nets as spec;
+    ghost use Rattle.wh_flow.specs.Residuals.{AreNear};
 
     ghost Value = { spec.Net };
 
     ghost view = { λ n. record { rank = n.rank; cells = n.cells } };
 
-    ghost invariant = { λ n. IsNet (record { rank = n.rank; cells = n.cells }) };
+    ghost invariant = { λ n. IsNet (record { rank = n.rank; cells = n.cells }) × AreNear n.near n.cells };
 }
 
 impl Net {
@@ -38,6 +42,7 @@ impl Net {
         Net {
             rank,
             cells: [0; 2704],
+            near: [0; 52],
         }
     }
 
@@ -66,7 +71,11 @@ impl Net {
         ensures edge { (u v : ℕ) → u < 52 → v < 52 → cell self.new.cells u v ≡ cell self.old.cells u v + cond (joins u v (x, y)) 1 0 }
         ensures count { edge_count self.new.cells ≡ edge_count self.old.cells + 1 }
     {
-        write_edge(&mut self.cells, x.index() as usize, y.index() as usize);
+        let x = x.index() as usize;
+        let y = y.index() as usize;
+        write_edge(&mut self.cells, x, y);
+        join(&mut self.near, x, y);
+        join(&mut self.near, y, x);
     }
 
     /// The capacities, row by row.
@@ -78,10 +87,18 @@ impl Net {
         &self.cells
     }
 
+    /// For each letter the letters that edges join to it, as a mask.
+    pub(crate) fn near(&self) -> [u64; 52]
+        ensures { AreNear result self.now.cells }
+    {
+        self.near
+    }
+
     /// How many letters the rank has.
     pub(crate) fn letters(&self) -> usize
         ensures value { result ≡ 2 * self.now.rank }
         ensures few { result ≤ 52 }
+        ensures of_letters { IsOfLetters (2 * self.now.rank) self.now.cells }
     {
         2 * self.rank.get() as usize
     }
@@ -100,4 +117,18 @@ fn write_edge(cells: &mut [u32], x: usize, y: usize)
 {
     cells[52 * x + y] += 1;
     cells[52 * y + x] += 1;
+}
+
+/// Adds `y` to the mask of `x`.
+fn join(near: &mut [u64], x: usize, y: usize)
+    requires size { length near.old ≡ 52 }
+    requires x_within { x < 52 }
+    requires y_within { y < 52 }
+    ensures size { length near.new ≡ 52 }
+    ensures here { in_set (get_or near.new x 0) y ≡ true }
+    ensures others { (v z : ℕ) → v < 52 → z < 64 → (v ≢ x) ⊎ (z ≢ y) → in_set (get_or near.new v 0) z ≡ in_set (get_or near.old v 0) z }
+{
+    near[x] = LetterSet::of_bits(near[x])
+        .with(Letter::of_index(y as u8))
+        .bits();
 }

@@ -6,4 +6,4 @@ use Rattle.wh_flow.proofs.net.Net.cells.Goals as goal
 
 pub returns-clause-of_letters : goal.returns-clause-of_letters
 returns-clause-of_letters c = subst (λ (n : Net). IsOfLetters (2 * n.rank) c.self.inside.cells) c.self.view_is
-    (net_letters (record { rank = c.self.inside.rank; cells = c.self.inside.cells }) c.self.invariant)
+    (net_letters (record { rank = c.self.inside.rank; cells = c.self.inside.cells }) c.self.invariant.0)

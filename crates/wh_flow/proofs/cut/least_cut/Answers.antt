@@ -2,7 +2,7 @@ use Rattle.std.proofs.Common.{◌≢◌, ℕ, subst, List}
 use Rattle.wh_words.specs.LetterSets.{in_set}
 use Rattle.wh_words.specs.Flows.{IsFlow, IsMaximum, IsLeastCut}
 use Rattle.wh_flow.specs.Nets.{cell}
-use Rattle.wh_flow.proofs.residual.least_cut.Goals as goal
+use Rattle.wh_flow.proofs.cut.least_cut.Goals as goal
 
 -- What a set is for the tables n and f and the source v.
 abbrev Cut : ℕ → ℕ → List ℕ → List ℕ → ℕ → Type 0
