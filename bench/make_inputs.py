@@ -1,5 +1,8 @@
 #!/usr/bin/env python3
-"""Writes the inputs of the benchmarks, always the same ones, into bench/inputs."""
+"""Writes the inputs of the benchmarks, always the same ones, into bench/inputs.
+
+    make_inputs.py
+"""
 
 import pathlib
 import random
@@ -72,4 +75,7 @@ def main():
 
 
 if __name__ == "__main__":
+    if sys.argv[1:]:
+        print(__doc__, file=sys.stdout if sys.argv[1:] == ["--help"] else sys.stderr)
+        sys.exit(0 if sys.argv[1:] == ["--help"] else 2)
     main()

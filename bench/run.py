@@ -1,7 +1,9 @@
 #!/usr/bin/env python3
 """Runs the built program on each input, checks each answer, and prints a table of times and peak memory.
 
-It asserts nothing.
+    run.py
+
+It asserts nothing. `./whitehead` builds the program.
 """
 
 import math
@@ -9,6 +11,7 @@ import os
 import pathlib
 import resource
 import subprocess
+import sys
 import tempfile
 import time
 
@@ -57,7 +60,7 @@ def peak(megabytes):
     return f"{megabytes:.1f}" if megabytes > least else f"under {least}"
 
 
-def main():
+def print_table():
     print("| Input | Time (s) | Peak memory (MB) | Answer | Time to check (s) | Verdict |")
     print("|---|---|---|---|---|---|")
     for path in sorted((ROOT / "inputs").glob("*.txt")):
@@ -66,5 +69,16 @@ def main():
         print(f"| {path.stem} | {seconds:.3f} | {peak(megabytes)} | {told(answer)} | {checking:.3f} | {verdict.strip()} |")
 
 
+def main(words):
+    if words:
+        print(__doc__, file=sys.stdout if words == ["--help"] else sys.stderr)
+        return 0 if words == ["--help"] else 2
+    if not os.access(PROGRAM, os.X_OK):
+        print(f"run.py: the program isn't built: there is no {PROGRAM.resolve()}. ./whitehead builds it.", file=sys.stderr)
+        return 64
+    print_table()
+    return 0
+
+
 if __name__ == "__main__":
-    main()
+    sys.exit(main(sys.argv[1:]))

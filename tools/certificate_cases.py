@@ -1,50 +1,44 @@
 #!/usr/bin/env python3
 """Makes the cases of `check` in the table of runs.
 
-    python3 tools/certificate_cases.py stdin     prints the cases as crates/wh_tests_rows/stdin has them
-    python3 tools/certificate_cases.py stdout    prints what crates/wh_tests_rows/stdout has of them
+    certificate_cases.py write     puts the cases into crates/wh_tests_rows/stdin and stdout, in the place of those that stand there
+    certificate_cases.py compare   compares them with those that stand there
 
-The inputs are stored answers, right answers, some of them altered by hand, and random certificates, most of them altered at
-random. What is told of an input was written by hand; of a certificate that is altered at random it is what the checker of
-certificates finds. The random ones are the same each time. The second form stops where the checker finds something else
-than was written.
-
-The cases stand one after another in the table. Where something is changed here, they are to be put there again.
+The inputs are stored answers, right answers, some of them altered by hand, answers of the table that have a large level,
+and random certificates, most of them altered at random. What is told of an input was written by hand; of a certificate
+that is altered at random, and of a large level, it is what the checker of certificates finds. The random ones are the same each time. The tool
+stops where the checker finds something else than was written.
 """
 
-import pathlib
 import random
 import re
 import sys
 import typing
 
 import altered_answers
+import table
 from check_certificate import found
 from random_certificates import altered_at_random, random_certificate
 
-ROOT = pathlib.Path(__file__).parent.parent
 MOST_STORED = 20000
 RANDOM_CERTIFICATES = 40
 MOST_TUPLES = 12
-
-# Command lines that ask for `check`.
-OPTION = r"--(limit|workers)[ =][1-9][0-9]*"
-ASKS_CHECK = re.compile(rf"(-- )?({OPTION} )*check( {OPTION})*")
+LARGE_LEVEL = re.compile(r"^level (\d{4,})$", re.MULTILINE)
 
 
-class Case(typing.NamedTuple):
-    """The words of a command line, an input, and what is told."""
+class Written(typing.NamedTuple):
+    """The words of a command line, an input, and the text that was written for them."""
 
     words: str
     data: bytes
-    told: str
+    text: str
 
 
 # ---- cases
 
 
 def check_of(text, told):
-    return Case("check", text.encode("latin1"), told)
+    return Written("check", text.encode("latin1"), told)
 
 
 def altered(answer, old, new):
@@ -55,7 +49,7 @@ def altered(answer, old, new):
 
 def stored_cases():
     """Answers of the program. The fifth line of an undecided one has its verdict."""
-    for path in sorted((ROOT / "examples" / "answers").glob("*.txt")):
+    for path in sorted((table.ROOT / "examples" / "answers").glob("*.txt")):
         text = path.read_text()
         if len(text) <= MOST_STORED:
             undecided = "\nverdict undecided " in text
@@ -71,7 +65,7 @@ def written_cases():
     for answer, old, new, told in altered_answers.ALTERATIONS:
         yield check_of(altered(answer, old, new), told)
     for words, text, told in altered_answers.WITH_OPTIONS:
-        yield Case(words, text.encode(), told)
+        yield Written(words, text.encode(), told)
 
 
 def line_cases():
@@ -80,12 +74,24 @@ def line_cases():
         number = answer.splitlines().index(line) + 1
         for other in others:
             yield check_of(altered(answer, f"{line}\n", f"{other}\n"), f"refused bad-line line {number}")
-    for times, table in (0, altered_answers.TAKEN_OUT), (2, altered_answers.DOUBLED):
-        for answer, numbers in table:
+    for times, answers in (0, altered_answers.TAKEN_OUT), (2, altered_answers.DOUBLED):
+        for answer, numbers in answers:
             lines = answer.splitlines(keepends=True)
             for k, number in enumerate(numbers):
                 text = "".join(lines[:k] + lines[k : k + 1] * times + lines[k + 1 :])
                 yield check_of(text, f"refused bad-line line {number}")
+
+
+def level_cases():
+    """Answers of the table with a large level, and the same without the last tuple of the level."""
+    for case in table.parts().problems:
+        large = LARGE_LEVEL.search(case.told)
+        if large:
+            _, answer = case.told.split("\n", 1)
+            front, _ = answer.rsplit("at ", 1)
+            fewer = altered(front, large.group(), f"level {int(large.group(1)) - 1}") + "done\n"
+            yield check_of(answer, "valid")
+            yield check_of(fewer, found(fewer.encode())[0])
 
 
 def altered_case(rng, text, may_be_refused):
@@ -107,9 +113,9 @@ def random_cases():
         yield altered_case(rng, text, k % 4 == 0)
 
 
-def cases():
+def written():
     """All cases, each once."""
-    made = [*stored_cases(), *written_cases(), *line_cases(), *random_cases()]
+    made = [*stored_cases(), *written_cases(), *line_cases(), *level_cases(), *random_cases()]
     return list(dict.fromkeys(made))
 
 
@@ -118,42 +124,45 @@ def cases():
 
 def status(case):
     """The status of a case. What is told has to be what the checker finds, where the words ask for it."""
-    if not ASKS_CHECK.fullmatch(case.words):
+    if not table.asks_check(case.words):
         return 2
-    told, status = found(case.data)
-    if told != case.told:
-        raise ValueError(f"{told}, but {case.told} was written, for {case.data!r}")
+    text, status = found(case.data)
+    if text != case.text:
+        raise ValueError(f"{text}, but {case.text} was written, for {case.data!r}")
     return status
 
 
-def head(case):
-    """The line before a case. It tells whether the last byte of the input is left out."""
-    sign = "=|" if case.data and not case.data.endswith(b"\n") else "=="
-    return f"{sign} {case.words}\n".encode()
+def cases():
+    """The cases as the table has them."""
+    return [table.Case(case.words, case.data, table.told_by(case.text, status(case))) for case in written()]
 
 
-def stdin_block(case):
-    if re.search(rb"^=[=|]", case.data, re.MULTILINE):
-        raise ValueError(f"a line begins like the head of a case in {case.data!r}")
-    end = b"\n" if head(case).startswith(b"=|") else b""
-    return head(case) + case.data + end
+def write():
+    made = cases()
+    table.write(table.parts()._replace(certificates=made))
+    print(f"{len(made)} cases written")
+    return True
 
 
-def stdout_block(case):
-    return head(case) + f"status {status(case)}\n{case.told}\n".encode()
+def compare():
+    made, stand = cases(), table.parts().certificates
+    different = sum(case != other for case, other in zip(made, stand)) + abs(len(made) - len(stand))
+    print(f"cases of check made again: {len(made)}, of which {different} stand otherwise in the table")
+    return different == 0
 
 
-BLOCKS = {"stdin": stdin_block, "stdout": stdout_block}
+MODES = {"write": write, "compare": compare}
 
 
-def main():
-    if len(sys.argv) != 2 or sys.argv[1] not in BLOCKS:
-        print("stdin or stdout?", file=sys.stderr)
+def main(words):
+    if words == ["--help"]:
+        print(__doc__)
+        return 0
+    if len(words) != 1 or words[0] not in MODES:
+        print(__doc__, file=sys.stderr)
         return 2
-    for case in cases():
-        sys.stdout.buffer.write(BLOCKS[sys.argv[1]](case))
-    return 0
+    return 0 if MODES[words[0]]() else 1
 
 
 if __name__ == "__main__":
-    sys.exit(main())
+    sys.exit(main(sys.argv[1:]))

@@ -1,6 +1,8 @@
 #!/usr/bin/env python3
 """Checks an answer of `whitehead reduce` or `whitehead decide`, and shares nothing with the program.
 
+    check_certificate.py < answer
+
 It reads the answer on standard input and writes the very line that `whitehead check` writes, with its exit status:
 
     valid                      0    every rule holds
@@ -532,11 +534,14 @@ def found(data):
     return "valid", 0
 
 
-def main():
+def main(words):
+    if words:
+        print(__doc__, file=sys.stdout if words == ["--help"] else sys.stderr)
+        return 0 if words == ["--help"] else 64
     text, status = found(sys.stdin.buffer.read(MOST_BYTES + 1))
     print(text)
     return status
 
 
 if __name__ == "__main__":
-    sys.exit(main())
+    sys.exit(main(sys.argv[1:]))

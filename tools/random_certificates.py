@@ -45,7 +45,7 @@ def inverse_move(move):
 
 
 def shortened(rank, words):
-    """Moves that make a tuple shortest, and what they make of it."""
+    """Moves that shorten a tuple until no move does, and what they make of it."""
     words = [cyclic_word(word) for word in words]
     moves = []
     shorter = True
@@ -58,7 +58,7 @@ def shortened(rank, words):
 
 
 def level(rank, root, most):
-    """The level of a shortest tuple, with a list of moves to each tuple of it; None where it has more than so many."""
+    """The level of a tuple that no move shortens, with a list of moves to each tuple of it; None where it has more than so many."""
     walks = {hashed(root): []}
     waiting = [root]
     for words in waiting:

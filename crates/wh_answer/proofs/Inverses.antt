@@ -19,7 +19,7 @@ act_all-append t [] ns = refl
 act_all-append t (m ∷ ms) ns = act_all-append (act t m) ms ns
 
 pub trace_leads : (t u : TupleData) (ms : List Move) → IsCapacityTrace t ms u → act_all t ms ≡ u
-trace_leads t u [] (done tight) = refl
+trace_leads t u [] (done flat) = refl
 trace_leads t u (m ∷ ms) (step s r) = trace_leads (act t m) u ms r
 
 pub walk_leads : (t u : TupleData) (ms : List Move) → Reaches t ms u → act_all t ms ≡ u
@@ -43,7 +43,7 @@ pub inverse_list-cons : (m : Move) (ms : List Move) → inverse_list (m ∷ ms) 
 inverse_list-cons m ms = ap (map inverse_move) (reverse-append (m ∷ []) ms) ∙ map-append inverse_move (reverse ms) (m ∷ [])
 
 pub trace_back : (t u : TupleData) (ms : List Move) → IsTuple t → t.rank ≤ 26 → IsCapacityTrace t ms u → act_all u (inverse_list ms) ≡ t
-trace_back t u [] is low (done tight) = refl
+trace_back t u [] is low (done flat) = refl
 trace_back t u (m ∷ ms) is low (step s r) =
     ap (act_all u) (inverse_list-cons m ms)
     ∙ act_all-append u (inverse_list ms) (inverse_move m ∷ [])

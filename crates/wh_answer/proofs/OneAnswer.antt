@@ -1,7 +1,6 @@
 -- A problem has one answer, as far as its text and its status go.
 use Rattle.std.proofs.Common.{◌≡◌, ◌≢◌, ◌⊎◌, ℕ, ◌<◌, ◌≤◌, List, [], ◌∷◌, ◌++◌, length, map, refl, sym, ap, ap₂, ◌∙◌, subst, arith, inl, inr}
 use Rattle.std.specs.Prelude.{codes}
-use Rattle.std.specs.List.{flat_map}
 use Rattle.std.proofs.lemmas.List.{length-map}
 use Rattle.wh_words.specs.Tuples.{TupleData, Tuple, IsTuple, tuple_length}
 use Rattle.wh_words.specs.Moves.{Move}
@@ -17,29 +16,15 @@ use Rattle.wh_text.specs.declared.answer.Verdict.{Verdict}
 use Rattle.wh_text.specs.declared.answer.Verdict.TheVariants.{Yes, NoLength, NoLevel, Undecided}
 use Rattle.wh_text.specs.declared.answer.Answer.TheVariants as answers
 use Rattle.wh_text.specs.Problems.ProblemData.{reduce, decide}
-use Rattle.wh_text.specs.AnswerData.{plains}
-use Rattle.wh_text.specs.FieldTexts.{words_text, number_text}
-use Rattle.wh_text.specs.AnswerTexts.{rank_text, side_text, at_text, level_text, verdict_text, answer_text}
+use Rattle.wh_text.specs.AnswerData.{VerdictData, plains, side_of, verdict_of}
+use Rattle.wh_fields.specs.TupleFields.{words_row}
+use Rattle.wh_lines.specs.Rows.{Row, number_row, rows_text}
+use Rattle.wh_text.specs.AnswerTexts.{side_rows, level_rows, verdict_row, verdict_rows, heading_row, done_row, answer_text}
 use Rattle.wh_text.specs.Statuses.{verdict_status}
 use Rattle.wh_answer.specs.Answers.{IsSideOf, EndApart, Decides}
 use Rattle.wh_answer.specs.Answers.Decides.{other_lengths, one_end, too_long, too_many, joined, off_level}
 use Rattle.wh_answer.specs.Laws.{AnswerIsUnique}
 use Rattle.wh_answer.proofs.OneSide.{trace_one, side_one}
-
--- ---- levels
-abbrev at_texts : List TupleData → List ℕ
-at_texts ts = flat_map (λ t. codes "at" ++ words_text t.words) ts
-
-at_texts_of : (ts : List Tuple) → flat_map at_text ts ≡ at_texts (plains ts)
-at_texts_of [] = refl
-at_texts_of (t ∷ ts) = ap (λ v. at_text t ++ v) (at_texts_of ts)
-
--- Tuples of the same data have the same lines.
-level_text_one : (ts us : List Tuple) → plains ts ≡ plains us → level_text ts ≡ level_text us
-level_text_one ts us e =
-    let count : length ts ≡ length us = sym (length-map ts (λ (t : Tuple). t.plain)) ∙ ap length e ∙ length-map us (λ (t : Tuple). t.plain) in
-    ap (λ n. codes "level" ++ number_text n ++ flat_map at_text ts) count
-    ∙ ap (λ v. codes "level" ++ number_text (length us) ++ v) (at_texts_of ts ∙ ap at_texts e ∙ sym (at_texts_of us))
 
 -- ---- one of two cases
 branch : {T P Q : Type 0} (A B : T → Type 0) → (P → Q → ⊥) → ((x y : T) → P → A x → A y → x ≡ y) → ((x y : T) → Q → B x → B y → x ≡ y) → (x y : T) → ((P × A x) ⊎ (Q × B x)) → ((P × A y) ⊎ (Q × B y)) → x ≡ y
@@ -49,12 +34,16 @@ branch A B clash left right x y (inr a) (inl b) = absurd (clash b.0 a.0)
 branch A B clash left right x y (inr a) (inr b) = right x y a.0 a.1 b.1
 
 -- ---- the verdict
--- A text and a status.
+-- Rows and a status.
 abbrev Told : Type 0
-Told = List ℕ × Status
+Told = List Row × Status
+
+-- The rows of a verdict.
+abbrev rows_told : VerdictData → List Row
+rows_told v = verdict_row v ∷ verdict_rows v
 
 abbrev told : Verdict → Told
-told v = (verdict_text v, verdict_status v)
+told v = (rows_told (verdict_of v), verdict_status v)
 
 module _ (limit : ℕ) (s t u w : TupleData) (ms ns : List Move) where
   -- What is told where the ends u and w of the traces ms and ns are in one level, by whether w is reached.
@@ -80,17 +69,16 @@ module _ (limit : ℕ) (s t u w : TupleData) (ms ns : List Move) where
   IsTold x = ((tuple_length u ≢ tuple_length w) × ((a b : Side) × IsSideOf s a × IsSideOf t b × (x ≡ told (NoLength a b)))) ⊎ ((tuple_length u ≡ tuple_length w) × InOneLength x)
 
   no_length_one : IsTuple s → s.rank ≤ 26 → IsTuple t → t.rank ≤ 26 → (x y : Told) → ((a b : Side) × IsSideOf s a × IsSideOf t b × (x ≡ told (NoLength a b))) → ((a b : Side) × IsSideOf s a × IsSideOf t b × (y ≡ told (NoLength a b))) → x ≡ y
-  unfolding verdict_text
   no_length_one is low js just x y (a, b, i, j, e) (c, d, k, l, f) =
-      e ∙ ap₂ (λ v q. (codes " no length\n" ++ v ++ q, statuses.No)) (side_one s a c is low i k) (side_one t b d js just j l) ∙ sym f
+      e ∙ ap₂ (λ v q. (record { keyword = codes "verdict"; fields = codes "no" ∷ codes "length" ∷ [] } ∷ v ++ q, statuses.No)) (side_one s a c is low i k) (side_one t b d js just j l) ∙ sym f
 
   no_level_one : IsTuple s → s.rank ≤ 26 → IsTuple t → t.rank ≤ 26 → (x y : Told) → ((a b : Side) × (ts : List Tuple) × IsSideOf s a × IsSideOf t b × IsLevel u (plains ts) × (x ≡ told (NoLevel a b ts))) →
       ((a b : Side) × (ts : List Tuple) × IsSideOf s a × IsSideOf t b × IsLevel u (plains ts) × (y ≡ told (NoLevel a b ts))) → x ≡ y
-  unfolding verdict_text
   no_level_one is low js just x y (a, b, ts, i, j, h, e) (c, d, us, k, l, g, f) =
-      let same : level_text ts ≡ level_text us = level_text_one ts us (level_unique u (plains ts) (plains us) h g) in
-      e ∙ ap₂ (λ v q. (codes " no level\n" ++ v ++ q ++ level_text ts, statuses.No)) (side_one s a c is low i k) (side_one t b d js just j l)
-      ∙ ap (λ v. (codes " no level\n" ++ side_text c ++ side_text d ++ v, statuses.No)) same ∙ sym f
+      let same : plains ts ≡ plains us = level_unique u (plains ts) (plains us) h g in
+      let word : Row = record { keyword = codes "verdict"; fields = codes "no" ∷ codes "level" ∷ [] } in
+      e ∙ ap₂ (λ v q. (word ∷ (v ++ q) ++ level_rows (plains ts), statuses.No)) (side_one s a c is low i k) (side_one t b d js just j l)
+      ∙ ap (λ ls. (word ∷ (side_rows (side_of c) ++ side_rows (side_of d)) ++ level_rows ls, statuses.No)) same ∙ sym f
 
   told_once : IsTuple s → s.rank ≤ 26 → IsTuple t → t.rank ≤ 26 → (x y : Told) → IsTold x → IsTold y → x ≡ y
   told_once is low js just =
@@ -207,12 +195,12 @@ verdict_one limit s t a b is low js just i j =
     told_once limit s t u w ms ns is low js just (told a) (told b) (is_told limit s t u w ms ns a h i) (is_told limit s t u w ms ns b h j)
 
 -- ---- the answer
--- The texts of answers for these tuples and these lines.
-reduce_text : TupleData → List ℕ → List ℕ
-reduce_text t lines = codes "whitehead 1 reduce\n" ++ (rank_text t.rank ++ codes "tuple" ++ words_text t.words ++ lines) ++ codes "done\n"
+-- The texts of answers for these tuples and these rows.
+reduce_text : TupleData → List Row → List ℕ
+reduce_text t rows = rows_text (heading_row (codes "reduce") ∷ number_row (codes "rank") t.rank ∷ words_row (codes "tuple") t.words ∷ rows ++ done_row ∷ [])
 
-decide_text : TupleData → TupleData → List ℕ → List ℕ
-decide_text s t lines = codes "whitehead 1 decide\n" ++ (rank_text s.rank ++ codes "first" ++ words_text s.words ++ codes "second" ++ words_text t.words ++ codes "verdict" ++ lines) ++ codes "done\n"
+decide_text : TupleData → TupleData → List Row → List ℕ
+decide_text s t rows = rows_text (heading_row (codes "decide") ∷ number_row (codes "rank") s.rank ∷ words_row (codes "first") s.words ∷ words_row (codes "second") t.words ∷ rows ++ done_row ∷ [])
 
 pub answer_one : AnswerIsUnique
 unfolding answer_text reduce_text decide_text
@@ -223,6 +211,6 @@ answer_one limit (decide s t) (answers.Reduce u a) b is i j = absurd i
 answer_one limit (decide s t) (answers.Decide x y v) (answers.Reduce u a) is i j = absurd j
 answer_one limit (decide s t) (answers.Decide x y v) (answers.Decide p q r) is i j =
     let one : told v ≡ told r = verdict_one limit s t v r is.0 (omega (arith, is.4)) is.1 (omega (arith, is.2, is.4)) i.2.0 j.2.0 in (
-      ap₂ (λ a b. decide_text a b (verdict_text v)) (i.0 ∙ sym j.0) (i.1 ∙ sym j.1) ∙ ap (λ (k : Told). decide_text p.plain q.plain k.0) one,
+      ap₂ (λ a b. decide_text a b (rows_told (verdict_of v))) (i.0 ∙ sym j.0) (i.1 ∙ sym j.1) ∙ ap (λ (k : Told). decide_text p.plain q.plain k.0) one,
       ap (λ (k : Told). k.1) one,
     )

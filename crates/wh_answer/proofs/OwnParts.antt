@@ -24,14 +24,16 @@ use Rattle.wh_graph.proofs.EdgeCounts.{one, count-cons, edges_join, edges_length
 use Rattle.wh_reduce.specs.FlowLists.{AreFlows}
 use Rattle.wh_reduce.proofs.Traced.{step_shortens}
 use Rattle.wh_level.proofs.Walks.{reached_rank, reached_words, reached_tuple}
-use Rattle.wh_text.proofs.Equations.{both_true}
-use Rattle.wh_text.specs.ReadingBack.{IsMoveOf, IsTupleOf, IsFlowOf}
+use Rattle.wh_lines.proofs.Equations.{both_true}
+use Rattle.wh_fields.specs.MoveFields.{IsMoveOf}
+use Rattle.wh_fields.specs.TupleFields.{IsTupleOf}
+use Rattle.wh_fields.specs.FlowFields.{IsFlowOf}
 use Rattle.wh_answer.proofs.Inverses.{step_move, step_rank, inverse_list-cons}
 use Rattle.wh_answer.proofs.Sides.{flows_have_lines}
 
 -- ---- moves
 pub trace_moves : (n : ℕ) (t u : TupleData) (ms : List Move) → t.rank ≡ n → n ≤ 26 → IsCapacityTrace t ms u → All (IsMoveOf n) ms
-trace_moves n t u [] e low (done tight) = All-nil (IsMoveOf n)
+trace_moves n t u [] e low (done flat) = All-nil (IsMoveOf n)
 trace_moves n t u (m ∷ ms) e low (step s r) = All-cons (IsMoveOf n) m ms (step_move t m (omega (arith, e, low)) s, sym (step_rank t m s) ∙ e) (trace_moves n (act t m) u ms e low r)
 
 pub walk_moves : (n : ℕ) (t u : TupleData) (ms : List Move) → t.rank ≡ n → Reaches t ms u → All (IsMoveOf n) ms
@@ -54,12 +56,12 @@ step_end n count t m is low s = record {
 }
 
 pub trace_end : (n count : ℕ) (t u : TupleData) (ms : List Move) → IsTupleOf n count t → n ≤ 26 → IsCapacityTrace t ms u → IsTupleOf n count u
-trace_end n count t u [] is low (done tight) = is
+trace_end n count t u [] is low (done flat) = is
 trace_end n count t u (m ∷ ms) is low (step s r) = trace_end n count (act t m) u ms (step_end n count t m is low s) low r
 
 -- The length of a tuple falls with each move of its trace.
 pub trace_length : (n count : ℕ) (t u : TupleData) (ms : List Move) → IsTupleOf n count t → n ≤ 26 → IsCapacityTrace t ms u → length ms ≤ tuple_length t
-trace_length n count t u [] is low (done tight) = omega arith
+trace_length n count t u [] is low (done flat) = omega arith
 trace_length n count t u (m ∷ ms) is low (step s r) = omega (arith, trace_length n count (act t m) u ms (step_end n count t m is low s) low r, step_shortens t m is.tuple s)
 
 pub reached_of : (n count : ℕ) (t u : TupleData) (ms : List Move) → IsTupleOf n count t → Reaches t ms u → IsTupleOf n count u

@@ -1,5 +1,5 @@
 -- What is answered to a problem that was read is a certificate whose text isn't too long, unless it is undecided.
-use Rattle.std.proofs.Common.{◌≡◌, ℕ, ◌≤◌, List, [], ◌++◌, length, get_or, reverse, refl, sym, ◌∙◌, subst, arith, length-append}
+use Rattle.std.proofs.Common.{◌≡◌, ℕ, ◌+◌, ◌≤◌, List, [], ◌∷◌, ◌++◌, length, get_or, reverse, refl, sym, ap, ◌∙◌, subst, arith, length-append}
 use Rattle.std.specs.Prelude.{codes}
 use Rattle.std.specs.List.{All}
 use Rattle.std.proofs.lemmas.List.{length-map, length-reverse}
@@ -16,19 +16,23 @@ use Rattle.wh_text.specs.declared.answer.Verdict.{Verdict}
 use Rattle.wh_text.specs.declared.answer.Verdict.TheVariants.{Yes}
 use Rattle.wh_text.specs.declared.answer.Answer.TheVariants as answers
 use Rattle.wh_text.specs.Problems.ProblemData.{reduce, decide}
-use Rattle.wh_text.specs.FieldTexts.{words_text}
-use Rattle.wh_text.specs.AnswerTexts.{rank_text, side_text, level_text, reduced_text, decided_text, verdict_text, answer_text}
+use Rattle.wh_lines.specs.Rows.{Row, row_text, rows_text, number_row}
+use Rattle.wh_lines.proofs.PrintedRows.{rows_append}
+use Rattle.wh_fields.specs.TupleFields.{words_row, IsTupleOf}
+use Rattle.wh_text.specs.AnswerTexts.{side_rows, level_rows, verdict_row, verdict_rows, heading_row, done_row, head_rows, body_rows, answer_text}
 use Rattle.wh_text.specs.AnswerData.{plains, side_of, verdict_of, answer_of}
-use Rattle.wh_text.specs.AnswerData.AnswerData.{decide as decided}
-use Rattle.wh_text.specs.ReadingBack.{IsMoveOf, IsTupleOf, IsFlowOf, IsVerdictOf}
-use Rattle.wh_text.specs.ReadingBack.{IsSideOf as IsSideOfRank}
+use Rattle.wh_text.specs.AnswerData.{AnswerData}
+use Rattle.wh_text.specs.AnswerData.AnswerData.{reduce as reduced, decide as decided}
+use Rattle.wh_fields.specs.MoveFields.{moves_row, IsMoveOf}
+use Rattle.wh_fields.specs.FlowFields.{IsFlowOf}
+use Rattle.wh_text.specs.ReadingBack.{IsVerdictOf, IsSideOf as IsSideOfRank}
 use Rattle.wh_answer.specs.Answers.{IsSideOf, Decides}
 use Rattle.wh_answer.specs.Answers.Decides.{other_lengths, one_end, too_long, too_many, joined, off_level}
 use Rattle.wh_answer.specs.Certified.{IsDecided, IsReadable}
 use Rattle.wh_answer.specs.Laws.{IsProblem, AnswersAreReadable}
 use Rattle.wh_answer.proofs.OwnParts.{trace_moves, walk_moves, inverse_moves, trace_end, trace_length, reached_of, flow_of_generator}
 use Rattle.wh_answer.proofs.WalkLengths.{first_walk-length}
-use Rattle.wh_answer.proofs.TextLengths.{IsShort, words_text-length, number_text-length, moves_text-length, side_text-length, level_text-length}
+use Rattle.wh_answer.proofs.TextLengths.{IsShort, words_row-length, number_row-length, moves_row-length, side_rows-length, level_rows-length}
 
 -- ---- sides
 module _ (n count : ℕ) (low : n ≤ 26) (t : TupleData) (is : IsTupleOf n count t) where
@@ -46,8 +50,8 @@ module _ (n count : ℕ) (low : n ≤ 26) (t : TupleData) (is : IsTupleOf n coun
   few_moves : (u : TupleData) (ms : List Move) → IsCapacityTrace t ms u → length ms ≤ 4096
   few_moves u ms r = omega (arith, trace_length n count t u ms is low r, is.tuple.short)
 
-  side_short : (s : Side) → IsSideOf t s → length (side_text s) ≤ 1250000
-  side_short s own = side_text-length n count s low (own_side s own) (few_moves s.end.plain s.trace own.trace)
+  side_short : (s : Side) → IsSideOf t s → length (rows_text (side_rows (side_of s))) ≤ 1250000
+  side_short s own = side_rows-length n count (side_of s) low (own_side s own) (few_moves s.end.plain s.trace own.trace)
 
 -- ---- levels
 module _ (n count : ℕ) (u : TupleData) (is : IsTupleOf n count u) (small : tuple_length u ≤ 256) where
@@ -65,12 +69,12 @@ module _ (n count : ℕ) (u : TupleData) (is : IsTupleOf n count u) (small : tup
 -- The verdict is one in rank n on tuples with so many words, and its text leaves room for the other lines of the answer.
 record IsReadableVerdict (n count : ℕ) (v : Verdict) : Type 0 where
   parts : IsVerdictOf n count (verdict_of v)
-  short : length (verdict_text v) ≤ 60000000
+  short : length (rows_text (verdict_rows (verdict_of v))) ≤ 60000000
+  word : length (row_text (verdict_row (verdict_of v))) ≤ 100
 
 module _ (n count : ℕ) (low : n ≤ 26) (s t : TupleData) (is : IsTupleOf n count s) (js : IsTupleOf n count t) where
   -- The moves of a trace, then moves between the ends, and then the inverse of a trace.
   yes_readable : (u w : TupleData) (ms between ns : List Move) → IsCapacityTrace s ms u → IsCapacityTrace t ns w → All (IsMoveOf n) between → length between ≤ 131072 → IsReadableVerdict n count (Yes (ms ++ (between ++ inverse_list ns)))
-  unfolding verdict_text
   yes_readable u w ms between ns r q are few =
       let all : All (IsMoveOf n) (ms ++ (between ++ inverse_list ns)) =
       All-append (IsMoveOf n) ms (between ++ inverse_list ns) (trace_moves n s u ms is.rank low r)
@@ -79,7 +83,8 @@ module _ (n count : ℕ) (low : n ≤ 26) (s t : TupleData) (is : IsTupleOf n co
         parts = all;
         short = omega (
           arith,
-          moves_text-length n (ms ++ (between ++ inverse_list ns)) all,
+          moves_row-length (codes "moves") n (ms ++ (between ++ inverse_list ns)) all,
+          length-append (row_text (moves_row (codes "moves") (ms ++ (between ++ inverse_list ns)))) [],
           length-append ms (between ++ inverse_list ns),
           length-append between (inverse_list ns),
           length-map (reverse ns) inverse_move,
@@ -88,13 +93,25 @@ module _ (n count : ℕ) (low : n ≤ 26) (s t : TupleData) (is : IsTupleOf n co
           few_moves n count low t js w ns q,
           few,
         );
+        word = omega arith;
       }
 
+  -- The text of two sides.
+  sides_short : (a b : Side) → IsSideOf s a → IsSideOf t b → length (rows_text (side_rows (side_of a) ++ side_rows (side_of b))) ≤ 2500000
+  sides_short a b i j =
+      omega (
+        arith,
+        ap length (rows_append (side_rows (side_of a)) (side_rows (side_of b))),
+        length-append (rows_text (side_rows (side_of a))) (rows_text (side_rows (side_of b))),
+        side_short n count low s is a i,
+        side_short n count low t js b j,
+      )
+
   verdict_readable : (limit : ℕ) (v : Verdict) → limit ≤ 131072 → Decides limit s t v → IsDecided (decided s t (verdict_of v)) → IsReadableVerdict n count v
-  unfolding verdict_text
   verdict_readable limit v h (other_lengths {first = a} {second = b} i j differ) x = record {
     parts = (own_side n count low s is a i, own_side n count low t js b j);
-    short = omega (arith, length-append (side_text a) (side_text b), side_short n count low s is a i, side_short n count low t js b j);
+    short = omega (arith, sides_short a b i j);
+    word = omega arith;
   }
   verdict_readable limit v h (one_end {ms = ms} {ns = ns} {u = u} r q) x = yes_readable u u ms [] ns r q (All-nil (IsMoveOf n)) (omega arith)
   verdict_readable limit v h (too_long apart long) x = absurd x
@@ -116,61 +133,77 @@ module _ (n count : ℕ) (low : n ≤ 26) (s t : TupleData) (is : IsTupleOf n co
         );
         short = omega (
           arith,
-          length-append (side_text a ++ side_text b) (level_text ts),
-          length-append (side_text a) (side_text b),
-          side_short n count low s is a i,
-          side_short n count low t js b j,
-          level_text-length ts (All-weaker (λ t. IsTupleOf n count t × IsShort t) IsShort (λ t both. both.1) (plains ts) tuples) (omega (arith, few, h)),
+          ap length (rows_append (side_rows (side_of a) ++ side_rows (side_of b)) (level_rows (plains ts))),
+          length-append (rows_text (side_rows (side_of a) ++ side_rows (side_of b))) (rows_text (level_rows (plains ts))),
+          sides_short a b i j,
+          level_rows-length (plains ts) (All-weaker (λ t. IsTupleOf n count t × IsShort t) IsShort (λ t both. both.1) (plains ts) tuples) (omega (arith, count_of, few, h)),
         );
+        word = omega arith;
       }
 
 -- ---- answers
-reduce_readable : (t : Tuple) (s : Side) → IsProblem (reduce t.plain) → IsSideOf t.plain s → IsReadable (answers.Reduce t s)
+-- The text of all rows.
+whole_length : (a : AnswerData) (head body : ℕ) → length (rows_text (head_rows a)) ≤ head → length (rows_text (body_rows a)) ≤ body → length (answer_text a) ≤ head + body + 5
 unfolding answer_text
+whole_length a head body h b =
+    omega (
+      arith,
+      ap length (rows_append (head_rows a ++ body_rows a) (done_row ∷ [])),
+      length-append (rows_text (head_rows a ++ body_rows a)) (rows_text (done_row ∷ [])),
+      ap length (rows_append (head_rows a) (body_rows a)),
+      length-append (rows_text (head_rows a)) (rows_text (body_rows a)),
+      h,
+      b,
+    )
+
+reduce_readable : (t : Tuple) (s : Side) → IsProblem (reduce t.plain) → IsSideOf t.plain s → IsReadable (reduced t.plain (side_of s))
 reduce_readable t s (is, least, low) own =
     let of : IsTupleOf t.plain.rank (length t.plain.words) t.plain = record { tuple = is; rank = refl; size = refl } in
+    let rank = row_text (number_row (codes "rank") t.plain.rank) in
+    let tuple = row_text (words_row (codes "tuple") t.plain.words) in
+    let head : length (rows_text (head_rows (reduced t.plain (side_of s)))) ≤ 5000 = omega (
+      arith,
+      length-append (row_text (heading_row (codes "reduce"))) (rank ++ (tuple ++ [])),
+      length-append rank (tuple ++ []),
+      length-append tuple [],
+      number_row-length (codes "rank") 2 t.plain.rank (omega arith) (omega (arith, low)) (omega (arith, low)),
+      words_row-length (codes "tuple") t.plain,
+      is.few,
+      is.short,
+    ) in
     record {
       certificate = (is, least, low, own_side t.plain.rank (length t.plain.words) low t.plain of s own);
-      short = omega (
-        arith,
-        length-append (reduced_text t s) (codes "done\n"),
-        length-append (rank_text t.plain.rank ++ codes "tuple" ++ words_text t.plain.words) (side_text s),
-        length-append (rank_text t.plain.rank ++ codes "tuple") (words_text t.plain.words),
-        length-append (rank_text t.plain.rank) (codes "tuple"),
-        number_text-length 2 t.plain.rank (omega arith) (omega (arith, low)) (omega (arith, low)),
-        words_text-length t.plain,
-        is.few,
-        is.short,
-        side_short t.plain.rank (length t.plain.words) low t.plain of s own,
-      );
+      short = omega (arith, whole_length (reduced t.plain (side_of s)) 5000 1250000 head (side_short t.plain.rank (length t.plain.words) low t.plain of s own));
     }
 
-decide_readable : (limit : ℕ) (s t : Tuple) (v : Verdict) → limit ≤ 131072 → IsProblem (decide s.plain t.plain) → Decides limit s.plain t.plain v → IsDecided (answer_of (answers.Decide s t v)) → IsReadable (answers.Decide s t v)
-unfolding answer_text
+decide_readable : (limit : ℕ) (s t : Tuple) (v : Verdict) → limit ≤ 131072 → IsProblem (decide s.plain t.plain) → Decides limit s.plain t.plain v → IsDecided (answer_of (answers.Decide s t v)) → IsReadable (decided s.plain t.plain (verdict_of v))
 decide_readable limit s t v h (is, js, ranks, least, low, counts) d x =
     let of : IsTupleOf s.plain.rank (length s.plain.words) s.plain = record { tuple = is; rank = refl; size = refl } in
     let other : IsTupleOf s.plain.rank (length s.plain.words) t.plain = record { tuple = js; rank = sym ranks; size = sym counts } in
     let verdict : IsReadableVerdict s.plain.rank (length s.plain.words) v = verdict_readable s.plain.rank (length s.plain.words) (omega (arith, low)) s.plain t.plain of other limit v h d x in
+    let rank = row_text (number_row (codes "rank") s.plain.rank) in
+    let first = row_text (words_row (codes "first") s.plain.words) in
+    let second = row_text (words_row (codes "second") t.plain.words) in
+    let word = row_text (verdict_row (verdict_of v)) in
+    let head : length (rows_text (head_rows (decided s.plain t.plain (verdict_of v)))) ≤ 10000 = omega (
+      arith,
+      length-append (row_text (heading_row (codes "decide"))) (rank ++ (first ++ (second ++ (word ++ [])))),
+      length-append rank (first ++ (second ++ (word ++ []))),
+      length-append first (second ++ (word ++ [])),
+      length-append second (word ++ []),
+      length-append word [],
+      number_row-length (codes "rank") 2 s.plain.rank (omega arith) (omega (arith, low)) (omega (arith, low)),
+      words_row-length (codes "first") s.plain,
+      words_row-length (codes "second") t.plain,
+      is.few,
+      is.short,
+      js.few,
+      js.short,
+      verdict.word,
+    ) in
     record {
       certificate = (is, least, low, other, verdict.parts);
-      short = omega (
-        arith,
-        length-append (decided_text s t v) (codes "done\n"),
-        length-append (rank_text s.plain.rank ++ codes "first" ++ words_text s.plain.words ++ codes "second" ++ words_text t.plain.words ++ codes "verdict") (verdict_text v),
-        length-append (rank_text s.plain.rank ++ codes "first" ++ words_text s.plain.words ++ codes "second" ++ words_text t.plain.words) (codes "verdict"),
-        length-append (rank_text s.plain.rank ++ codes "first" ++ words_text s.plain.words ++ codes "second") (words_text t.plain.words),
-        length-append (rank_text s.plain.rank ++ codes "first" ++ words_text s.plain.words) (codes "second"),
-        length-append (rank_text s.plain.rank ++ codes "first") (words_text s.plain.words),
-        length-append (rank_text s.plain.rank) (codes "first"),
-        number_text-length 2 s.plain.rank (omega arith) (omega (arith, low)) (omega (arith, low)),
-        words_text-length s.plain,
-        words_text-length t.plain,
-        is.few,
-        is.short,
-        js.few,
-        js.short,
-        verdict.short,
-      );
+      short = omega (arith, whole_length (decided s.plain t.plain (verdict_of v)) 10000 60000000 head verdict.short);
     }
 
 pub answers_readable : AnswersAreReadable

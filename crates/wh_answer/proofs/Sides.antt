@@ -5,7 +5,7 @@ use Rattle.wh_words.specs.Tuples.{TupleData, IsTuple}
 use Rattle.wh_words.specs.Edges.{edges, ends_at, deg}
 use Rattle.wh_graph.proofs.EdgeCounts.{edges_length}
 use Rattle.wh_reduce.specs.FlowLists.{AreFlows}
-use Rattle.wh_text.specs.FlowTexts.{HaveLines}
+use Rattle.wh_fields.specs.FlowFields.{HaveLines}
 
 degree_few : (t : TupleData) (a : ℕ) → IsTuple t → deg a t ≤ 4096
 degree_few t a is = omega (arith, count_by-le-length (ends_at a) (edges t), edges_length t, is.short)

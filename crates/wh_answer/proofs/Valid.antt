@@ -13,7 +13,7 @@ use Rattle.wh_text.specs.AnswerData.{plains, side_of, verdict_of, answer_of}
 use Rattle.wh_text.specs.AnswerData.VerdictData.{yes}
 use Rattle.wh_text.specs.AnswerData.AnswerData.{decide}
 use Rattle.wh_text.specs.Numberings.{side_lines}
-use Rattle.wh_text.specs.ReadingBack.{heads_from}
+use Rattle.wh_fields.specs.FlowFields.{heads_from}
 use Rattle.wh_cert.specs.Demands.{fit_on_the_way, moves_carry, lengths_differ, lengths_agree, side_asked, sides_asked, level_asked}
 use Rattle.wh_cert.specs.Checks.{AreMet}
 use Rattle.wh_cert.proofs.Judging.{one_met, both_met}

@@ -27,7 +27,7 @@ fits_joined t u (m ∷ ms) ns e f g = fits_next t m (ms ++ ns) (f 0 (omega arith
 -- ---- traces, walks, and the inverses of traces
 -- A trace shortens the tuple at each step.
 pub trace_fits : (t u : TupleData) (ms : List Move) → IsTuple t → t.rank ≤ 26 → IsCapacityTrace t ms u → FitsOnTheWay t ms
-trace_fits t u [] is low (done tight) = fits_here t is.short
+trace_fits t u [] is low (done flat) = fits_here t is.short
 trace_fits t u (m ∷ ms) is low (step s r) = fits_next t m ms is.short (trace_fits (act t m) u ms (step_tuple t m is low s) low r)
 
 -- A walk keeps the length.
@@ -37,7 +37,7 @@ walk_fits t u (m ∷ ms) f (further l r) = fits_next t m ms f (walk_fits (act t 
 
 -- The inverse of a trace goes back through the tuples of the trace.
 back_fits : (t u : TupleData) (ms : List Move) → IsTuple t → t.rank ≤ 26 → IsCapacityTrace t ms u → FitsOnTheWay u (inverse_list ms)
-back_fits t u [] is low (done tight) = fits_here t is.short
+back_fits t u [] is low (done flat) = fits_here t is.short
 back_fits t u (m ∷ ms) is low (step s r) =
     let next : IsTuple (act t m) = step_tuple t m is low s in
     subst (FitsOnTheWay u) (sym (inverse_list-cons m ms))
@@ -46,7 +46,7 @@ back_fits t u (m ∷ ms) is low (step s r) =
 
 -- The end of a trace is a tuple.
 pub trace_tuple : (t u : TupleData) (ms : List Move) → IsTuple t → t.rank ≤ 26 → IsCapacityTrace t ms u → IsTuple u
-trace_tuple t u [] is low (done tight) = is
+trace_tuple t u [] is low (done flat) = is
 trace_tuple t u (m ∷ ms) is low (step s r) = trace_tuple (act t m) u ms (step_tuple t m is low s) low r
 
 -- ---- the moves of a yes

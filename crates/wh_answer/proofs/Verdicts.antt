@@ -1,6 +1,7 @@
 -- The verdict in each case, and that the moves of a yes carry the first tuple onto the second.
 use Rattle.std.proofs.Common.{◌≡◌, ◌≢◌, ℕ, ◌<◌, ◌≤◌, List, [], ◌∷◌, ◌++◌, length, map, refl, sym, ap, ◌∙◌, subst, arith}
 use Rattle.std.proofs.lemmas.List.{length-map}
+use Rattle.wh_words.specs.Limits.{most_level_length}
 use Rattle.wh_words.specs.Tuples.{TupleData, Tuple, tuple_length}
 use Rattle.wh_words.specs.Moves.{Move}
 use Rattle.wh_words.specs.MoveLists.{inverse_list}
@@ -9,18 +10,20 @@ use Rattle.wh_words.specs.CapacityTraces.{IsCapacityTrace}
 use Rattle.wh_words.specs.CapacityTraces.IsCapacityTrace.{done, step}
 use Rattle.wh_words.specs.Levels.{InLevel, IsLevel, IsFirstWalk, HasMoreThan}
 use Rattle.wh_reduce.specs.declared.trace.Trace.{Trace}
-use Rattle.wh_level.specs.Trees.{LevelData, IsClosed}
+use Rattle.wh_level.specs.Trees.{LevelData, IsClosedLevel}
 use Rattle.wh_text.specs.declared.answer.Side.{Side}
 use Rattle.wh_text.specs.declared.answer.Bound.TheVariants.{Length, Level}
 use Rattle.wh_text.specs.declared.answer.Verdict.TheVariants.{Yes, NoLength, NoLevel, Undecided}
 use Rattle.wh_answer.specs.Answers.{IsSideOf, EndApart, IsVerdict}
 use Rattle.wh_answer.specs.Answers.Decides.{other_lengths, one_end, too_long, too_many, joined, off_level}
 use Rattle.wh_answer.specs.Traced.{AreTraced, AreApart}
+use Rattle.wh_answer.specs.Findings.{Finds}
+use Rattle.wh_answer.specs.declared.finding.Finding.TheVariants as findings
 use Rattle.wh_answer.proofs.Inverses.{act_all-append, trace_leads, walk_leads, trace_back}
 
 -- A trace keeps the rank.
 pub trace_rank : (t u : TupleData) (ms : List Move) → IsCapacityTrace t ms u → u.rank ≡ t.rank
-trace_rank t u [] (done tight) = refl
+trace_rank t u [] (done flat) = refl
 trace_rank t u (m ∷ ms) (step s r) = trace_rank (act t m) u ms r
 
 ends_apart : (s t : TupleData) (first second : Trace) → AreTraced s t first second → AreApart first second → EndApart s t first.moves second.moves first.end.plain second.end.plain
@@ -46,8 +49,8 @@ yes_at_once limit s t first second ms traced same e =
     subst (λ ns. IsVerdict limit s t (Yes ns)) (sym e)
     (one_end traced.first_trace (subst (λ u. IsCapacityTrace t second.moves u) (sym same) traced.second_trace), carried s t first second [] traced same)
 
-pub yes_by_walk : (limit : ℕ) (s t : TupleData) (first second : Trace) (level : LevelData) (walk ms : List Move) → AreTraced s t first second → AreApart first second → tuple_length first.end.plain ≤ 256 →
-    IsClosed level → level.root ≡ first.end.plain → length level.tuples ≤ limit → IsFirstWalk level.root second.end.plain walk → ms ≡ first.moves ++ (walk ++ inverse_list second.moves) → IsVerdict limit s t (Yes ms)
+pub yes_by_walk : (limit : ℕ) (s t : TupleData) (first second : Trace) (level : LevelData) (walk ms : List Move) → AreTraced s t first second → AreApart first second → tuple_length first.end.plain ≤ most_level_length →
+    IsClosedLevel level → level.root ≡ first.end.plain → length level.tuples ≤ limit → IsFirstWalk level.root second.end.plain walk → ms ≡ first.moves ++ (walk ++ inverse_list second.moves) → IsVerdict limit s t (Yes ms)
 yes_by_walk limit s t first second level walk ms traced apart low closed e few first_walk f =
     let walked : IsFirstWalk first.end.plain second.end.plain walk = subst (λ u. IsFirstWalk u second.end.plain walk) e first_walk in
     subst (λ ns. IsVerdict limit s t (Yes ns)) (sym f) (
@@ -55,29 +58,40 @@ yes_by_walk limit s t first second level walk ms traced apart low closed e few f
       carried s t first second walk traced (walk_leads first.end.plain second.end.plain walk walked.leads),
     )
 
-pub no_level : (limit : ℕ) (s t : TupleData) (first second : Trace) (level : LevelData) (a b : Side) (ts : List Tuple) → AreTraced s t first second → AreApart first second → tuple_length first.end.plain ≤ 256 →
-    IsClosed level → level.root ≡ first.end.plain → length level.tuples ≤ limit → ¬ (InLevel level.root second.end.plain) → IsSideOf s a → IsSideOf t b → (a.trace ≡ first.moves) × (a.end ≡ first.end) → (b.trace ≡ second.moves) × (b.end ≡ second.end) →
-    map (λ u. u.plain) ts ≡ level.tuples → IsVerdict limit s t (NoLevel a b ts)
-no_level limit s t first second level a b ts traced apart low closed e few off left right own other same =
-    let end : level.root ≡ a.end.plain = e ∙ ap (λ (u : Tuple). u.plain) (sym own.1) in
+pub no_level : (limit : ℕ) (s t : TupleData) (first second : Trace) (a b : Side) (ts : List Tuple) → AreTraced s t first second → AreApart first second → tuple_length first.end.plain ≤ most_level_length →
+    IsLevel first.end.plain (map (λ u. u.plain) ts) → length ts ≤ limit → ¬ (InLevel first.end.plain second.end.plain) → IsSideOf s a → IsSideOf t b → (a.trace ≡ first.moves) × (a.end ≡ first.end) → (b.trace ≡ second.moves) × (b.end ≡ second.end) →
+    IsVerdict limit s t (NoLevel a b ts)
+no_level limit s t first second a b ts traced apart low level few off left right own other =
+    let end : first.end.plain ≡ a.end.plain = ap (λ (u : Tuple). u.plain) (sym own.1) in
     let last : second.end.plain ≡ b.end.plain = ap (λ (u : Tuple). u.plain) (sym other.1) in (
       off_level left right
           (record {
             first = left.trace;
             second = right.trace;
             level = ap (λ (u : Tuple). tuple_length u.plain) own.1 ∙ apart.0 ∙ ap tuple_length last;
-            apart = λ one. apart.1 (ap (λ (u : Tuple). u.plain) (sym own.1) ∙ one ∙ sym last);
+            apart = λ one. apart.1 (end ∙ one ∙ sym last);
           })
           (omega (arith, ap (λ (u : Tuple). tuple_length u.plain) own.1, low))
-          (subst (IsLevel a.end.plain) (sym same) (subst (λ u. IsLevel u level.tuples) end closed.level))
-          (omega (arith, few, ap length same, length-map ts (λ (u : Tuple). u.plain)))
+          (subst (λ u. IsLevel u (map (λ v. v.plain) ts)) end level)
+          few
           (λ reached. off (subst (λ u. InLevel u second.end.plain) (sym end) (subst (InLevel a.end.plain) (sym last) reached))),
       tt,
     )
 
-pub undecided_length : (limit : ℕ) (s t : TupleData) (first second : Trace) (n : ℕ) → AreTraced s t first second → AreApart first second → n ≡ tuple_length first.end.plain → 256 < n → IsVerdict limit s t (Undecided (Length n))
+pub undecided_length : (limit : ℕ) (s t : TupleData) (first second : Trace) (n : ℕ) → AreTraced s t first second → AreApart first second → n ≡ tuple_length first.end.plain → most_level_length < n → IsVerdict limit s t (Undecided (Length n))
 undecided_length limit s t first second n traced apart e long =
     subst (λ k. IsVerdict limit s t (Undecided (Length k))) (sym e) (too_long (ends_apart s t first second traced apart) (omega (arith, e, long)), tt)
 
-pub undecided_level : (limit : ℕ) (s t : TupleData) (first second : Trace) → AreTraced s t first second → AreApart first second → tuple_length first.end.plain ≤ 256 → HasMoreThan first.end.plain limit → IsVerdict limit s t (Undecided (Level limit))
+pub undecided_level : (limit : ℕ) (s t : TupleData) (first second : Trace) → AreTraced s t first second → AreApart first second → tuple_length first.end.plain ≤ most_level_length → HasMoreThan first.end.plain limit → IsVerdict limit s t (Undecided (Level limit))
 undecided_level limit s t first second traced apart low more = (too_many (ends_apart s t first second traced apart) low more, tt)
+
+-- The second end isn't in the level of the first.
+pub found_off : (limit : ℕ) (first second : Trace) (level : LevelData) (ts : List Tuple) → AreApart first second → tuple_length first.end.plain ≤ most_level_length → IsClosedLevel level → level.root ≡ first.end.plain →
+    length level.tuples ≤ limit → ¬ (InLevel level.root second.end.plain) → map (λ u. u.plain) ts ≡ level.tuples → Finds limit first second (findings.Level ts)
+found_off limit first second level ts apart low closed e few off same = (
+  apart,
+  low,
+  subst (λ us. IsLevel first.end.plain us) (sym same) (subst (λ u. IsLevel u level.tuples) e closed.level),
+  omega (arith, few, ap length same, length-map ts (λ (u : Tuple). u.plain)),
+  λ reached. off (subst (λ u. InLevel u second.end.plain) (sym e) reached),
+)

@@ -9,7 +9,8 @@ use Rattle.wh_words.specs.Moves.{Move}
 use Rattle.wh_words.specs.Action.{act}
 use Rattle.wh_words.specs.Levels.{Reaches, InLevel, IsLevel, IsFirstWalk}
 use Rattle.wh_words.specs.Levels.Reaches.{here, step}
-use Rattle.wh_level.proofs.LawProofs.{tied, no_more}
+use Rattle.wh_words.proofs.SameTuples.{tied}
+use Rattle.wh_level.proofs.LawProofs.{no_more}
 
 -- The tuples on a walk, from its start to its end.
 abbrev on_walk : TupleData → List Move → List TupleData

@@ -1,5 +1,6 @@
 -- The answer to a problem, after Lyndon and Schupp, I.4.
 use Rattle.std.specs.Prelude.{◌≡◌, ◌≢◌, ℕ, ◌<◌, ◌≤◌, List, ◌++◌, length, map}
+use Rattle.wh_words.specs.Limits.{most_level_rank, most_level_length}
 use Rattle.wh_words.specs.Tuples.{TupleData, Tuple, tuple_length}
 use Rattle.wh_words.specs.Moves.{Move}
 use Rattle.wh_words.specs.MoveLists.{inverse_list}
@@ -32,11 +33,11 @@ pub record EndApart (s t : TupleData) (ms ns : List Move) (u v : TupleData) : Ty
 pub data Decides (limit : ℕ) (s t : TupleData) : Verdict → Type 0 where
   other_lengths : {first second : Side} → IsSideOf s first → IsSideOf t second → tuple_length first.end.plain ≢ tuple_length second.end.plain → Decides limit s t (NoLength first second)
   one_end : {ms ns : List Move} {u : TupleData} → IsCapacityTrace s ms u → IsCapacityTrace t ns u → Decides limit s t (Yes (ms ++ inverse_list ns))
-  too_long : {ms ns : List Move} {u v : TupleData} → EndApart s t ms ns u v → 256 < tuple_length u → Decides limit s t (Undecided (Length (tuple_length u)))
-  too_many : {ms ns : List Move} {u v : TupleData} → EndApart s t ms ns u v → tuple_length u ≤ 256 → HasMoreThan u limit → Decides limit s t (Undecided (Level limit))
-  joined : {ms ns walk : List Move} {u v : TupleData} {ts : List TupleData} → EndApart s t ms ns u v → tuple_length u ≤ 256 → IsLevel u ts → length ts ≤ limit → IsFirstWalk u v walk →
+  too_long : {ms ns : List Move} {u v : TupleData} → EndApart s t ms ns u v → most_level_length < tuple_length u → Decides limit s t (Undecided (Length (tuple_length u)))
+  too_many : {ms ns : List Move} {u v : TupleData} → EndApart s t ms ns u v → tuple_length u ≤ most_level_length → HasMoreThan u limit → Decides limit s t (Undecided (Level limit))
+  joined : {ms ns walk : List Move} {u v : TupleData} {ts : List TupleData} → EndApart s t ms ns u v → tuple_length u ≤ most_level_length → IsLevel u ts → length ts ≤ limit → IsFirstWalk u v walk →
       Decides limit s t (Yes (ms ++ (walk ++ inverse_list ns)))
-  off_level : {first second : Side} {level : List Tuple} → IsSideOf s first → IsSideOf t second → EndApart s t first.trace second.trace first.end.plain second.end.plain → tuple_length first.end.plain ≤ 256 →
+  off_level : {first second : Side} {level : List Tuple} → IsSideOf s first → IsSideOf t second → EndApart s t first.trace second.trace first.end.plain second.end.plain → tuple_length first.end.plain ≤ most_level_length →
       IsLevel first.end.plain (map (λ u. u.plain) level) → length level ≤ limit → ¬ (InLevel first.end.plain second.end.plain) → Decides limit s t (NoLevel first second level)
 
 -- The moves of a yes carry the first tuple onto the second.
@@ -60,4 +61,4 @@ Answers limit (decide s t) (answers.Decide first second verdict) = (first.plain 
 -- The problem can be answered: two tuples are of one rank, which is at most 6, and have equally many words.
 abbrev pub IsAnswerable : ProblemData → Type 0
 IsAnswerable (reduce t) = Unit {0}
-IsAnswerable (decide s t) = (s.rank ≡ t.rank) × (s.rank ≤ 6) × (length s.words ≡ length t.words)
+IsAnswerable (decide s t) = (s.rank ≡ t.rank) × (s.rank ≤ most_level_rank) × (length s.words ≡ length t.words)

@@ -1,15 +1,15 @@
 -- Answers as certificates: their text can be read back, and is valid; and what valid ones show.
 use Rattle.std.specs.Prelude.{◌≡◌, ◌≢◌, ◌≤◌, length}
+use Rattle.wh_words.specs.Limits.{most_rank}
 use Rattle.wh_words.specs.Tuples.{TupleData, IsTuple, tuple_length}
 use Rattle.wh_words.specs.Action.{act_all}
 use Rattle.wh_words.specs.Traces.{IsFlat}
 use Rattle.wh_words.specs.Levels.{InLevel}
-use Rattle.wh_text.specs.declared.answer.Answer.{Answer}
 use Rattle.wh_text.specs.AnswerTexts.{answer_text}
-use Rattle.wh_text.specs.AnswerData.{SideData, VerdictData, AnswerData, answer_of}
+use Rattle.wh_text.specs.AnswerData.{SideData, VerdictData, AnswerData}
 use Rattle.wh_text.specs.AnswerData.VerdictData.{yes, no_length, no_level, undecided}
 use Rattle.wh_text.specs.AnswerData.AnswerData.{reduce, decide}
-use Rattle.wh_text.specs.Certificates.{most_certificate_bytes}
+use Rattle.wh_text.specs.Limits.{most_answer_bytes}
 use Rattle.wh_text.specs.ReadingBack.{IsCertificate, heads_of}
 use Rattle.wh_cert.specs.Demands.{asked}
 use Rattle.wh_cert.specs.Checks.{AreMet}
@@ -21,9 +21,9 @@ IsDecided (decide s t (undecided bound)) = ⊥
 IsDecided (decide s t v) = Unit {0}
 
 -- The text of the answer is a certificate that isn't too long.
-pub record IsReadable (a : Answer) : Type 0 where
-  pub certificate : IsCertificate (answer_of a)
-  pub short : length (answer_text a) ≤ most_certificate_bytes
+pub record IsReadable (a : AnswerData) : Type 0 where
+  pub certificate : IsCertificate a
+  pub short : length (answer_text a) ≤ most_answer_bytes
 
 -- All that is asked of the lines of its text is so.
 abbrev pub IsValid : AnswerData → Type 0
@@ -39,8 +39,8 @@ EndsAreTuples (undecided bound) = Unit {0}
 
 -- The tuples of an answer and the ends of its sides are tuples, and the rank of its first tuple is at most 26.
 abbrev pub HasTuples : AnswerData → Type 0
-HasTuples (reduce t s) = IsTuple t × (t.rank ≤ 26) × IsTuple s.end
-HasTuples (decide s t v) = IsTuple s × IsTuple t × (s.rank ≤ 26) × EndsAreTuples v
+HasTuples (reduce t s) = IsTuple t × (t.rank ≤ most_rank) × IsTuple s.end
+HasTuples (decide s t v) = IsTuple s × IsTuple t × (s.rank ≤ most_rank) × EndsAreTuples v
 
 -- The trace of a side carries a tuple to the end of the side, which no cut shortens.
 pub record LeadsToFlatEnd (t : TupleData) (s : SideData) : Type 0 where

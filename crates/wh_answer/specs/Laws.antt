@@ -1,5 +1,6 @@
 -- What holds of all answers, and of all valid certificates, as statements that contracts name.
 use Rattle.std.specs.Prelude.{◌≡◌, ℕ, ◌≤◌, List, length}
+use Rattle.wh_words.specs.Limits.{most_rank, most_level_rank, most_level_tuples}
 use Rattle.wh_words.specs.Tuples.{IsTuple}
 use Rattle.wh_text.specs.declared.answer.Answer.{Answer}
 use Rattle.wh_text.specs.Problems.{ProblemData}
@@ -15,16 +16,16 @@ use Rattle.wh_answer.specs.Certified.{IsDecided, IsReadable, HasTuples, Shows}
 
 -- What is known of a problem that was read: its tuples are of a rank that its command allows, and two tuples have one rank and equally many words.
 abbrev pub IsProblem : ProblemData → Type 0
-IsProblem (reduce t) = IsTuple t × (1 ≤ t.rank) × (t.rank ≤ 26)
-IsProblem (decide s t) = IsTuple s × IsTuple t × (s.rank ≡ t.rank) × (1 ≤ s.rank) × (s.rank ≤ 6) × (length s.words ≡ length t.words)
+IsProblem (reduce t) = IsTuple t × (1 ≤ t.rank) × (t.rank ≤ most_rank)
+IsProblem (decide s t) = IsTuple s × IsTuple t × (s.rank ≡ t.rank) × (1 ≤ s.rank) × (s.rank ≤ most_level_rank) × (length s.words ≡ length t.words)
 
 -- A problem has one text and one status that answer it.
 abbrev pub AnswerIsUnique : Type 0
-AnswerIsUnique = (limit : ℕ) (p : ProblemData) (a b : Answer) → IsProblem p → Answers limit p a → Answers limit p b → (answer_text a ≡ answer_text b) × (answer_status a ≡ answer_status b)
+AnswerIsUnique = (limit : ℕ) (p : ProblemData) (a b : Answer) → IsProblem p → Answers limit p a → Answers limit p b → (answer_text (answer_of a) ≡ answer_text (answer_of b)) × (answer_status a ≡ answer_status b)
 
 -- What is answered to a problem that was read is a certificate whose text isn't too long, unless it is undecided.
 abbrev pub AnswersAreReadable : Type 0
-AnswersAreReadable = (limit : ℕ) (p : ProblemData) (a : Answer) → limit ≤ 131072 → IsProblem p → Answers limit p a → IsDecided (answer_of a) → IsReadable a
+AnswersAreReadable = (limit : ℕ) (p : ProblemData) (a : Answer) → limit ≤ most_level_tuples → IsProblem p → Answers limit p a → IsDecided (answer_of a) → IsReadable (answer_of a)
 
 -- A certificate of which all that is asked is so, whoever wrote it, shows this, whatever letters and values its `flow` lines tell.
 abbrev pub ValidShows : Type 0

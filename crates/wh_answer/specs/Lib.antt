@@ -1,4 +1,5 @@
 pub mod Answers
 pub mod Traced
+pub mod Findings
 pub mod Certified
 pub mod Laws

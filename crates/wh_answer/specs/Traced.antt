@@ -1,5 +1,6 @@
 -- What is known of two tuples once they are reduced.
 use Rattle.std.specs.Prelude.{◌≡◌, ◌≢◌, ◌≤◌}
+use Rattle.wh_words.specs.Limits.{most_rank}
 use Rattle.wh_words.specs.Tuples.{TupleData, IsTuple, tuple_length}
 use Rattle.wh_words.specs.CapacityTraces.{IsCapacityTrace}
 use Rattle.wh_reduce.specs.declared.trace.Trace.{Trace}
@@ -8,8 +9,8 @@ use Rattle.wh_reduce.specs.declared.trace.Trace.{Trace}
 pub record AreTraced (s t : TupleData) (first second : Trace) : Type 0 where
   pub first_tuple : IsTuple s
   pub second_tuple : IsTuple t
-  pub first_low : s.rank ≤ 26
-  pub second_low : t.rank ≤ 26
+  pub first_low : s.rank ≤ most_rank
+  pub second_low : t.rank ≤ most_rank
   pub first_trace : IsCapacityTrace s first.moves first.end.plain
   pub second_trace : IsCapacityTrace t second.moves second.end.plain
 

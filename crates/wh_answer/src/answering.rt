@@ -1,6 +1,7 @@
 //! The answer to a problem.
-ghost use Rattle.std.specs.Prelude.{IfOk};
+ghost use Rattle.std.specs.Prelude.{ℕ, IfOk};
 ghost use Rattle.wh_text.specs.Problems.{problem_of};
+ghost use Rattle.wh_text.specs.Problems.ProblemData.{reduce as to_reduce, decide as to_decide};
 ghost use Rattle.wh_text.specs.AnswerTexts.{IsPrintable};
 ghost use Rattle.wh_text.specs.AnswerData.{answer_of};
 ghost use Rattle.wh_answer.specs.Answers.{Answers, IsAnswerable};
@@ -11,7 +12,39 @@ use crate::side::side_of;
 use std::alloc::Global;
 use wh_reduce::reduce;
 use wh_text::{Answer, Problem};
-use wh_words::OutOfMemory;
+use wh_words::{OutOfMemory, Tuple};
+
+/// The answer where a tuple is to be reduced.
+fn reduced(alloc: Global, tuple: &Tuple) -> Result<Answer, OutOfMemory>
+    ensures answers { (limit : ℕ) → IfOk result (Answers limit (to_reduce tuple.now.plain)) }
+    ensures printable { IfOk result (λ a. IsPrintable (answer_of a)) }
+    ensures valid { IfOk result (λ a. IsDecided (answer_of a) → IsValid (answer_of a)) }
+{
+    // The proof takes from these calls that it is a tuple, and of which ranks.
+    tuple.rank().get();
+    let trace = reduce(alloc, tuple)?;
+    Ok(Answer::Reduce {
+        tuple: tuple.copy(alloc)?,
+        side: side_of(alloc, trace)?,
+    })
+}
+
+/// The answer where a verdict on two tuples is asked for.
+fn decided(alloc: Global, first: &Tuple, second: &Tuple, limit: u32) -> Result<Answer, OutOfMemory>
+    requires { IsAnswerable (to_decide first.now.plain second.now.plain) }
+    ensures answers { IfOk result (Answers limit (to_decide first.now.plain second.now.plain)) }
+    ensures printable { IfOk result (λ a. IsPrintable (answer_of a)) }
+    ensures valid { IfOk result (λ a. IsDecided (answer_of a) → IsValid (answer_of a)) }
+{
+    // The proof takes from these calls that both are tuples.
+    first.rank().get();
+    second.rank();
+    Ok(Answer::Decide {
+        first: first.copy(alloc)?,
+        second: second.copy(alloc)?,
+        verdict: decide(alloc, first, second, limit)?,
+    })
+}
 
 /// The answer to a problem, where levels may have at most so many tuples. It can be printed.
 ///
@@ -25,29 +58,11 @@ use wh_words::OutOfMemory;
 pub fn answer(alloc: Global, problem: &Problem, limit: u32) -> Result<Answer, OutOfMemory>
     requires { IsAnswerable (problem_of problem.now) }
     ensures answers { IfOk result (Answers limit (problem_of problem.now)) }
-    ensures printable { IfOk result IsPrintable }
+    ensures printable { IfOk result (λ a. IsPrintable (answer_of a)) }
     ensures valid { IfOk result (λ a. IsDecided (answer_of a) → IsValid (answer_of a)) }
 {
     match problem {
-        Problem::Reduce { tuple } => {
-            // The proof takes from these calls that it is a tuple, and of which ranks.
-            tuple.rank().get();
-            let trace = reduce(alloc, tuple)?;
-            Ok(Answer::Reduce {
-                tuple: tuple.copy(alloc)?,
-                side: side_of(alloc, trace)?,
-            })
-        }
-        Problem::Decide { first, second } => {
-            // The proof takes from these calls that both are tuples.
-            first.rank().get();
-            second.rank();
-            let verdict = decide(alloc, first, second, limit)?;
-            Ok(Answer::Decide {
-                first: first.copy(alloc)?,
-                second: second.copy(alloc)?,
-                verdict,
-            })
-        }
+        Problem::Reduce { tuple } => reduced(alloc, tuple),
+        Problem::Decide { first, second } => decided(alloc, first, second, limit),
     }
 }

@@ -1,122 +1,75 @@
 //! The verdict on two tuples.
-ghost use Rattle.std.specs.Prelude.{◌≡◌, ◌≢◌, ℕ, ◌≤◌, length, IfOk};
+ghost use Rattle.std.specs.Prelude.{◌≡◌, ◌≢◌, ℕ, ◌≤◌, length, map, IfOk};
+ghost use Rattle.wh_words.specs.Limits.{most_level_rank, most_level_length};
 ghost use Rattle.wh_words.specs.Tuples.{TupleData, tuple_length};
-ghost use Rattle.wh_words.specs.CapacityTraces.{IsTight};
-ghost use Rattle.wh_level.specs.Trees.{IsClosed};
+ghost use Rattle.wh_words.specs.CapacityTraces.{IsFlatByCapacities};
+ghost use Rattle.wh_words.specs.Levels.{InLevel, IsLevel};
+ghost use Rattle.wh_text.specs.AnswerData.{verdict_of};
 ghost use Rattle.wh_text.specs.AnswerTexts.{IsPrintableVerdict};
 ghost use Rattle.wh_answer.specs.Answers.{IsVerdict};
+ghost use Rattle.wh_answer.specs.Findings.{Finds};
 ghost use Rattle.wh_answer.specs.Traced.{AreTraced, AreApart};
 
-use crate::exploring::explore;
-use crate::joining::joined;
+use crate::finding::{Finding, find};
 use crate::side::side_of;
 use std::alloc::Global;
-use wh_level::Level;
 use wh_reduce::{Trace, reduce};
-use wh_text::{Bound, Verdict};
-use wh_walk::walk;
+use wh_text::Verdict;
 use wh_words::{List, OutOfMemory, Tuple};
-use wh_workers::Explored;
-
-/// How many letters the tuples of a level may have.
-const MOST_LEVEL_LETTERS: u32 = 256;
 
 /// The verdict where the traces end at different lengths.
 fn other_lengths(alloc: Global, first: Trace, second: Trace) -> Result<Verdict, OutOfMemory>
-    requires first_tight { IsTight first.end.plain }
-    requires second_tight { IsTight second.end.plain }
+    requires first_flat { IsFlatByCapacities first.end.plain }
+    requires second_flat { IsFlatByCapacities second.end.plain }
     requires lengths { tuple_length first.end.plain ≢ tuple_length second.end.plain }
     ensures verdict { (limit : ℕ) (s t : TupleData) → AreTraced s t first second → IfOk result (IsVerdict limit s t) }
-    ensures printable { IfOk result IsPrintableVerdict }
+    ensures printable { IfOk result (λ v. IsPrintableVerdict (verdict_of v)) }
 {
     let first = side_of(alloc, first)?;
     let second = side_of(alloc, second)?;
     Ok(Verdict::NoLength(first, second))
 }
 
-/// The verdict where the traces end at one tuple.
-fn one_end(alloc: Global, first: Trace, second: Trace) -> Result<Verdict, OutOfMemory>
-    requires { first.end.plain ≡ second.end.plain }
-    ensures verdict { (limit : ℕ) (s t : TupleData) → AreTraced s t first second → IfOk result (IsVerdict limit s t) }
-    ensures printable { IfOk result IsPrintableVerdict }
-{
-    let moves = joined(alloc, first.moves.items(), &[], second.moves.items())?;
-    Ok(Verdict::Yes(List::of(moves)))
-}
-
-/// The verdict where the traces end apart, and the level of the first end is known.
-fn decide_in(
+/// The verdict where the second end isn't in the level of the first.
+fn off_level(
     alloc: Global,
     first: Trace,
     second: Trace,
-    level: Level,
+    level: List<Tuple>,
 ) -> Result<Verdict, OutOfMemory>
-    requires first_tight { IsTight first.end.plain }
-    requires second_tight { IsTight second.end.plain }
+    requires first_flat { IsFlatByCapacities first.end.plain }
+    requires second_flat { IsFlatByCapacities second.end.plain }
     requires apart { AreApart first second }
-    requires low { tuple_length first.end.plain ≤ 256 }
-    requires closed { IsClosed level }
-    requires root { level.root ≡ first.end.plain }
-    ensures verdict { (limit : ℕ) (s t : TupleData) → length level.tuples ≤ limit → AreTraced s t first second → IfOk result (IsVerdict limit s t) }
-    ensures printable { IfOk result IsPrintableVerdict }
+    requires low { tuple_length first.end.plain ≤ most_level_length }
+    requires level { IsLevel first.end.plain (map (λ u. u.plain) level) }
+    requires off { ¬ (InLevel first.end.plain second.end.plain) }
+    ensures verdict { (limit : ℕ) (s t : TupleData) → length level ≤ limit → AreTraced s t first second → IfOk result (IsVerdict limit s t) }
+    ensures printable { IfOk result (λ v. IsPrintableVerdict (verdict_of v)) }
 {
-    match walk(alloc, &level, &second.end)? {
-        Some(moves) => {
-            let moves = joined(alloc, first.moves.items(), &moves, second.moves.items())?;
-            Ok(Verdict::Yes(List::of(moves)))
-        }
-        None => {
-            let first = side_of(alloc, first)?;
-            let second = side_of(alloc, second)?;
-            Ok(Verdict::NoLevel(first, second, List::of(level.into_tuples())))
-        }
-    }
+    let first = side_of(alloc, first)?;
+    let second = side_of(alloc, second)?;
+    Ok(Verdict::NoLevel(first, second, level))
 }
 
-/// The verdict where the traces end apart.
-fn decide_apart(
+/// The verdict that follows from what was found.
+fn verdict_by(
     alloc: Global,
     first: Trace,
     second: Trace,
-    limit: u32,
+    found: Finding,
 ) -> Result<Verdict, OutOfMemory>
-    requires rank { first.end.plain.rank ≤ 6 }
-    requires first_tight { IsTight first.end.plain }
-    requires second_tight { IsTight second.end.plain }
-    requires apart { AreApart first second }
-    ensures verdict { (s t : TupleData) → AreTraced s t first second → IfOk result (IsVerdict limit s t) }
-    ensures printable { IfOk result IsPrintableVerdict }
+    requires first_flat { IsFlatByCapacities first.end.plain }
+    requires second_flat { IsFlatByCapacities second.end.plain }
+    requires found { (limit : ℕ) × Finds limit first second found }
+    ensures verdict { (limit : ℕ) (s t : TupleData) → Finds limit first second found → AreTraced s t first second → IfOk result (IsVerdict limit s t) }
+    ensures printable { IfOk result (λ v. IsPrintableVerdict (verdict_of v)) }
 {
-    let letters = first.end.length();
-    if letters > MOST_LEVEL_LETTERS {
-        return Ok(Verdict::Undecided(Bound::Length(letters)));
+    match found {
+        Finding::Moves(moves) => Ok(Verdict::Yes(moves)),
+        Finding::Bound(bound) => Ok(Verdict::Undecided(bound)),
+        Finding::Lengths => other_lengths(alloc, first, second),
+        Finding::Level(level) => off_level(alloc, first, second, level),
     }
-    match explore(alloc, &first.end, limit)? {
-        Explored::Passed => Ok(Verdict::Undecided(Bound::Level(limit))),
-        Explored::Closed(level) => decide_in(alloc, first, second, level),
-    }
-}
-
-/// The verdict by the traces of two tuples.
-fn decide_traced(
-    alloc: Global,
-    first: Trace,
-    second: Trace,
-    limit: u32,
-) -> Result<Verdict, OutOfMemory>
-    requires rank { first.end.plain.rank ≤ 6 }
-    requires first_tight { IsTight first.end.plain }
-    requires second_tight { IsTight second.end.plain }
-    ensures verdict { (s t : TupleData) → AreTraced s t first second → IfOk result (IsVerdict limit s t) }
-    ensures printable { IfOk result IsPrintableVerdict }
-{
-    if first.end.length() != second.end.length() {
-        return other_lengths(alloc, first, second);
-    }
-    if first.end.same(&second.end) {
-        return one_end(alloc, first, second);
-    }
-    decide_apart(alloc, first, second, limit)
 }
 
 /// The verdict on two tuples of one rank, which is at most 6.
@@ -126,15 +79,16 @@ pub fn decide(
     second: &Tuple,
     limit: u32,
 ) -> Result<Verdict, OutOfMemory>
-    requires rank { first.now.plain.rank ≤ 6 }
+    requires rank { first.now.plain.rank ≤ most_level_rank }
     requires one_rank { first.now.plain.rank ≡ second.now.plain.rank }
     ensures verdict { IfOk result (IsVerdict limit first.now.plain second.now.plain) }
-    ensures printable { IfOk result IsPrintableVerdict }
+    ensures printable { IfOk result (λ v. IsPrintableVerdict (verdict_of v)) }
 {
     // The proof takes from these calls that both are tuples.
     first.rank();
     second.rank();
     let first = reduce(alloc, first)?;
     let second = reduce(alloc, second)?;
-    decide_traced(alloc, first, second, limit)
+    let found = find(alloc, &first, &second, limit)?;
+    verdict_by(alloc, first, second, found)
 }

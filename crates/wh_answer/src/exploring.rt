@@ -1,5 +1,6 @@
 //! Exploring for a caller that counts no steps.
 ghost use Rattle.std.specs.Prelude.{◌≡◌, ◌<◌, ◌≤◌, IfOk};
+ghost use Rattle.wh_words.specs.Limits.{most_level_rank};
 ghost use Rattle.wh_workers.specs.Explorations.{Explores};
 
 use std::alloc::Global;
@@ -15,7 +16,7 @@ fn explore_over<L: Ledger>(
     limit: u32,
     blank: Blank,
 ) -> Result<Explored, OutOfMemory>
-    requires rank { root.now.plain.rank ≤ 6 }
+    requires rank { root.now.plain.rank ≤ most_level_rank }
     requires name { blank.name ≡ L.name }
     requires parts { blank.parts ≡ L.parts }
     requires some { 0 < blank.parts }
@@ -27,7 +28,7 @@ fn explore_over<L: Ledger>(
 
 /// The level of a root of rank 6 at most, or that it has more tuples than the limit.
 pub fn explore(alloc: Global, root: &Tuple, limit: u32) -> Result<Explored, OutOfMemory>
-    requires { root.now.plain.rank ≤ 6 }
+    requires { root.now.plain.rank ≤ most_level_rank }
     ensures { IfOk result (Explores root.now.plain limit) }
 {
     explore_over::<Brand>(alloc, root, limit, Blank::new(1))

@@ -4,6 +4,7 @@
 mod answering;
 mod deciding;
 mod exploring;
+mod finding;
 mod joining;
 pub mod laws;
 mod side;

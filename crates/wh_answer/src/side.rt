@@ -1,7 +1,8 @@
 //! What an answer tells of one tuple.
 ghost use Rattle.std.specs.Prelude.{◌≡◌, IfOk};
 ghost use Rattle.wh_words.specs.Tuples.{TupleData};
-ghost use Rattle.wh_words.specs.CapacityTraces.{IsTight, IsCapacityTrace};
+ghost use Rattle.wh_words.specs.CapacityTraces.{IsFlatByCapacities, IsCapacityTrace};
+ghost use Rattle.wh_text.specs.AnswerData as told;
 ghost use Rattle.wh_text.specs.AnswerTexts.{IsPrintableSide};
 ghost use Rattle.wh_answer.specs.Answers.{IsSideOf};
 
@@ -12,10 +13,10 @@ use wh_words::{List, OutOfMemory};
 
 /// The side of the tuple that has this trace.
 pub fn side_of(alloc: Global, trace: Trace) -> Result<Side, OutOfMemory>
-    requires { IsTight trace.end.plain }
+    requires { IsFlatByCapacities trace.end.plain }
     ensures side { (t : TupleData) → IsCapacityTrace t trace.moves trace.end.plain → IfOk result (IsSideOf t) }
     ensures own { IfOk result (λ side. (side.trace ≡ trace.moves) × (side.end ≡ trace.end)) }
-    ensures printable { IfOk result IsPrintableSide }
+    ensures printable { IfOk result (λ side. IsPrintableSide (told.side_of side)) }
 {
     let Trace { moves, end } = trace;
     let flows = flows(alloc, &end)?;

@@ -1,5 +1,4 @@
 pub mod Judging
-pub mod ListedTuples
 pub mod Complements
 pub mod Staying
 pub mod Flowing

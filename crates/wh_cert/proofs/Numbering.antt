@@ -6,7 +6,7 @@ use Rattle.wh_words.specs.Tuples.{TupleData}
 use Rattle.wh_text.specs.AnswerData.{SideData, VerdictData, AnswerData, CertificateData}
 use Rattle.wh_text.specs.AnswerData.VerdictData.{yes, no_length, no_level, undecided}
 use Rattle.wh_text.specs.AnswerData.AnswerData.{reduce, decide}
-use Rattle.wh_text.specs.Numberings.{side_lines, IsSideOfRank, IsVerdictOfRank, IsAnswerOfOneRank, IsNumbered, verdict_lines, answer_lines}
+use Rattle.wh_text.specs.Numberings.{head_lines, side_lines, IsSideOfRank, IsVerdictOfRank, IsAnswerOfOneRank, IsNumbered, verdict_lines, answer_lines}
 use Rattle.wh_cert.specs.declared.checked.Rule.{Rule}
 use Rattle.wh_cert.specs.Demands.{Demand, Placed, fit_on_the_way, moves_carry, trace_ends, lengths_differ, lengths_agree, has_root, rises, has_height, is_absent, is_closed, tuple_at, asked_below, trace_asked, flow_asked, flows_asked, side_asked, sides_asked, at_asked, level_asked, verdict_asked, asked}
 use Rattle.wh_cert.specs.declared.stop.Stop.{Stop}
@@ -75,19 +75,19 @@ level_before n place root second ts l =
     a_line n (place, has_root root ts) (asked_below (at_asked (place + 1) root second ts) (length ts)) (omega (arith, l))
     (below_before n (at_asked (place + 1) root second ts) (length ts) (λ k h. at_before n (place + 1) root second ts k (omega (arith, l, h))))
 
-verdict_before : (n : ℕ) (heads : List (ℕ × ℕ)) (s t : TupleData) (v : VerdictData) → IsVerdictOfRank s.rank v → 5 + verdict_lines s.rank v < n → AreBefore n (verdict_asked heads s t v)
-verdict_before n heads s t (yes ms) is l =
-    a_line n (5, fit_on_the_way s ms) ((5, moves_carry s ms t) ∷ []) (omega (arith, l)) (a_line n (5, moves_carry s ms t) [] (omega (arith, l)) (no_lines n))
-verdict_before n heads s t (no_length a b) is l = sides_before n 5 s.rank heads s t a b lengths_differ refl is.0 is.1 (omega (arith, l))
-verdict_before n heads s t (no_level a b ts) is l =
-    lines_then n (sides_asked 5 s.rank heads s t a b lengths_agree) (level_asked (5 + 2 * side_lines s.rank) a.end b.end ts)
-    (sides_before n 5 s.rank heads s t a b lengths_agree refl is.0 is.1 (omega (arith, l)))
-    (level_before n (5 + 2 * side_lines s.rank) a.end b.end ts (omega (arith, l)))
-verdict_before n heads s t (undecided bound) is l = no_lines n
+verdict_before : (n place : ℕ) (heads : List (ℕ × ℕ)) (s t : TupleData) (v : VerdictData) → IsVerdictOfRank s.rank v → place + verdict_lines s.rank v < n → AreBefore n (verdict_asked place heads s t v)
+verdict_before n place heads s t (yes ms) is l =
+    a_line n (place, fit_on_the_way s ms) ((place, moves_carry s ms t) ∷ []) (omega (arith, l)) (a_line n (place, moves_carry s ms t) [] (omega (arith, l)) (no_lines n))
+verdict_before n place heads s t (no_length a b) is l = sides_before n place s.rank heads s t a b lengths_differ refl is.0 is.1 (omega (arith, l))
+verdict_before n place heads s t (no_level a b ts) is l =
+    lines_then n (sides_asked place s.rank heads s t a b lengths_agree) (level_asked (place + 2 * side_lines s.rank) a.end b.end ts)
+    (sides_before n place s.rank heads s t a b lengths_agree refl is.0 is.1 (omega (arith, l)))
+    (level_before n (place + 2 * side_lines s.rank) a.end b.end ts (omega (arith, l)))
+verdict_before n place heads s t (undecided bound) is l = no_lines n
 
 asked_before : (heads : List (ℕ × ℕ)) (answer : AnswerData) → IsAnswerOfOneRank answer → AreBefore (answer_lines answer) (asked heads answer)
-asked_before heads (reduce t s) is = side_before (3 + side_lines t.rank + 1) 3 heads t s is (omega arith)
-asked_before heads (decide s t v) is = verdict_before (5 + verdict_lines s.rank v + 1) heads s t v is.1 (omega arith)
+asked_before heads (reduce t s) is = side_before (answer_lines (reduce t s)) (head_lines (reduce t s)) heads t s is (omega arith)
+asked_before heads (decide s t v) is = verdict_before (answer_lines (decide s t v)) (head_lines (decide s t v)) heads s t v is.1 (omega arith)
 
 pub broken_line : (heads : List (ℕ × ℕ)) (answer : AnswerData) (place : ℕ) (rule : Rule) → IsAnswerOfOneRank answer → IsFirstBroken (asked heads answer) place rule → place < answer_lines answer
 broken_line heads answer place rule is first = broken_before (answer_lines answer) (asked heads answer) place rule (asked_before heads answer is) first

@@ -14,7 +14,8 @@ use Rattle.wh_moves.proofs.IdentityCuts.{identity_acts}
 use Rattle.wh_graph.proofs.LevelMoves.{level_cut}
 use Rattle.wh_graph.proofs.ComplementCuts.{generator_of, complement, complement_flips, complement_cut}
 use Rattle.wh_cert.specs.Demands.{ImagesAreIn}
-use Rattle.wh_cert.specs.Listings.{HaveSameTuples, StaysIn, SwapsStay, InversionsStay, CutsStay}
+use Rattle.wh_sets.specs.TupleSets.{HaveSameTuples}
+use Rattle.wh_cert.specs.Listings.{StaysIn, SwapsStay, InversionsStay, CutsStay}
 use Rattle.wh_cert.proofs.Complements.{turned_acts}
 
 -- ---- one after another

@@ -14,7 +14,7 @@ use Rattle.wh_moves.specs.Acts.{FitsOnTheWay}
 use Rattle.wh_text.specs.AnswerData.{SideData, VerdictData, AnswerData}
 use Rattle.wh_text.specs.AnswerData.VerdictData.{yes, no_length, no_level, undecided}
 use Rattle.wh_text.specs.AnswerData.AnswerData.{reduce, decide}
-use Rattle.wh_text.specs.Numberings.{side_lines}
+use Rattle.wh_text.specs.Numberings.{head_lines, side_lines}
 use Rattle.wh_cert.specs.declared.checked.Rule.{Rule}
 use Rattle.wh_cert.specs.declared.checked.Rule.TheVariants as rules
 
@@ -138,15 +138,15 @@ at_asked place root second ts k =
 abbrev pub level_asked : ℕ → TupleData → TupleData → List TupleData → List Placed
 level_asked place root second ts = (place, has_root root ts) ∷ asked_below (at_asked (place + 1) root second ts) (length ts)
 
--- Of the lines after the verdict of two tuples. Five lines stand before them.
-abbrev pub verdict_asked : List (ℕ × ℕ) → TupleData → TupleData → VerdictData → List Placed
-verdict_asked heads s t (yes ms) = (5, fit_on_the_way s ms) ∷ (5, moves_carry s ms t) ∷ []
-verdict_asked heads s t (no_length a b) = sides_asked 5 s.rank heads s t a b lengths_differ
-verdict_asked heads s t (no_level a b ts) =
-    sides_asked 5 s.rank heads s t a b lengths_agree ++ level_asked (5 + 2 * side_lines s.rank) a.end b.end ts
-verdict_asked heads s t (undecided bound) = []
+-- Of the lines after the verdict of two tuples, of which the first is at a place.
+abbrev pub verdict_asked : ℕ → List (ℕ × ℕ) → TupleData → TupleData → VerdictData → List Placed
+verdict_asked place heads s t (yes ms) = (place, fit_on_the_way s ms) ∷ (place, moves_carry s ms t) ∷ []
+verdict_asked place heads s t (no_length a b) = sides_asked place s.rank heads s t a b lengths_differ
+verdict_asked place heads s t (no_level a b ts) =
+    sides_asked place s.rank heads s t a b lengths_agree ++ level_asked (place + 2 * side_lines s.rank) a.end b.end ts
+verdict_asked place heads s t (undecided bound) = []
 
--- Of all lines of an answer, whose `flow` lines tell these letters and values. Three lines stand before a side of `reduce`.
+-- Of all lines of an answer, whose `flow` lines tell these letters and values.
 abbrev pub asked : List (ℕ × ℕ) → AnswerData → List Placed
-asked heads (reduce t s) = side_asked 3 heads t s
-asked heads (decide s t v) = verdict_asked heads s t v
+asked heads (reduce t s) = side_asked (head_lines (reduce t s)) heads t s
+asked heads (decide s t v) = verdict_asked (head_lines (decide s t v)) heads s t v

@@ -1,14 +1,11 @@
 -- Images of a tuple in a list of tuples.
-use Rattle.std.specs.Prelude.{◌≡◌, ◌⊎◌, ℕ, ◌*◌, List, Contains, ◌↔◌}
+use Rattle.std.specs.Prelude.{◌≡◌, ℕ, ◌*◌, List, Contains}
+use Rattle.wh_words.specs.Limits.{most_words, most_letters}
 use Rattle.wh_words.specs.Tuples.{TupleData, Tuple}
 use Rattle.wh_words.specs.Moves.{Move, cut_move}
 use Rattle.wh_words.specs.Moves.Kind.{swap, invert}
 use Rattle.wh_words.specs.Action.{act}
 use Rattle.wh_words.specs.Levels.{IsLevelMove}
-
--- Two lists have the same tuples, whatever their order is.
-abbrev pub HaveSameTuples : List TupleData → List TupleData → Type 0
-HaveSameTuples us ts = (t : TupleData) → Contains us t ↔ Contains ts t
 
 -- If the move is a level move of the tuple, the image is in the list.
 abbrev pub StaysIn : List TupleData → TupleData → Move → Type 0
@@ -30,11 +27,7 @@ CutsStayWith ts t a = (set : ℕ) → StaysIn ts t (cut_move t.rank a set)
 abbrev pub CutsStay : List TupleData → TupleData → Type 0
 CutsStay ts t = (g : ℕ) → CutsStayWith ts t (2 * g)
 
--- A list has one more tuple, if it didn't have it.
-abbrev pub IsAdded : List TupleData → TupleData → List TupleData → Type 0
-IsAdded old t new = (u : TupleData) → Contains new u ↔ (Contains old u ⊎ (u ≡ t))
-
 -- Every tuple fits in the rooms of this one.
 pub record IsRoomy (t : Tuple) : Type 0 where
-  pub letters : t.room ≡ 4096
-  pub words : t.word_room ≡ 64
+  pub letters : t.room ≡ most_letters
+  pub words : t.word_room ≡ most_words

@@ -1,6 +1,7 @@
 //! Judging a certificate.
 ghost use Rattle.std.specs.Prelude.{◌≡◌, ◌↔◌, ◌+◌, ◌*◌, ◌<◌, ◌≤◌, [], ◌∷◌, ◌++◌, length, get_or, IsTrue, IfOk};
 ghost use Rattle.std.specs.List.{All};
+ghost use Rattle.wh_words.specs.Limits.{most_level_rank};
 ghost use Rattle.wh_words.specs.Tuples.{TupleData};
 ghost use Rattle.wh_text.specs.AnswerData.{plains, side_of, verdict_of, answer_of, certificate_of};
 ghost use Rattle.wh_text.specs.Numberings.{IsNumbered, IsSideOfRank, IsVerdictOfRank, IsAnswerOfOneRank, verdict_flows, flow_lines};
@@ -18,9 +19,6 @@ use std::alloc::Global;
 use wh_moves::Move;
 use wh_text::{Answer, Numbered, Side, Verdict};
 use wh_words::{Letter, OutOfMemory, Rank, Tuple};
-
-/// How many lines come before the sides of a verdict.
-const BEFORE_SIDES: usize = 5;
 
 /// How many lines a side of a rank has.
 fn side_lines(rank: Rank) -> usize
@@ -87,9 +85,10 @@ fn judge_second(
     judge_flows(place + 2, tuple.rank().get() as usize, heads, side)
 }
 
-/// Judges the lines of two sides, where `met` tells whether what is asked of the lengths of the two ends is so.
+/// Judges the lines of two sides, of which the first is at a place, where `met` tells whether what is asked of the lengths of the two ends is so.
 fn judge_sides(
     alloc: Global,
+    place: usize,
     heads: &[(Letter, u32)],
     first: &Tuple,
     second: &Tuple,
@@ -97,16 +96,17 @@ fn judge_sides(
     b: &Side,
     met: bool,
 ) -> Result<(), Stop>
+    requires low { place ≤ 5 }
     requires one_rank { second.now.plain.rank ≡ first.now.plain.rank }
     requires a { IsSideOfRank first.now.plain.rank (side_of a.now) }
     requires b { IsSideOfRank first.now.plain.rank (side_of b.now) }
     requires heads { 2 * first.now.plain.rank ≤ length heads.now }
-    ensures { (lengths : TupleData → TupleData → Demand) → rules.Length ≡ rule_of (lengths a.now.end.plain b.now.end.plain) → (IsTrue met ↔ IsMet (lengths a.now.end.plain b.now.end.plain)) → Judges (sides_asked 5 first.now.plain.rank heads.now first.now.plain second.now.plain (side_of a.now) (side_of b.now) lengths) result }
+    ensures { (lengths : TupleData → TupleData → Demand) → rules.Length ≡ rule_of (lengths a.now.end.plain b.now.end.plain) → (IsTrue met ↔ IsMet (lengths a.now.end.plain b.now.end.plain)) → Judges (sides_asked place first.now.plain.rank heads.now first.now.plain second.now.plain (side_of a.now) (side_of b.now) lengths) result }
 {
-    judge_side(alloc, BEFORE_SIDES, heads, first, a)?;
+    judge_side(alloc, place, heads, first, a)?;
     judge_second(
         alloc,
-        BEFORE_SIDES + side_lines(first.rank()),
+        place + side_lines(first.rank()),
         heads,
         second,
         b,
@@ -114,28 +114,31 @@ fn judge_sides(
     )
 }
 
-/// Judges the sides of a no where the ends have different lengths.
+/// Judges the sides of a no where the ends have different lengths, from a place on.
 fn judge_no_length(
     alloc: Global,
+    place: usize,
     heads: &[(Letter, u32)],
     first: &Tuple,
     second: &Tuple,
     a: &Side,
     b: &Side,
 ) -> Result<(), Stop>
+    requires low { place ≤ 5 }
     requires one_rank { second.now.plain.rank ≡ first.now.plain.rank }
     requires a { IsSideOfRank first.now.plain.rank (side_of a.now) }
     requires b { IsSideOfRank first.now.plain.rank (side_of b.now) }
     requires heads { 2 * first.now.plain.rank ≤ length heads.now }
-    ensures { Judges (sides_asked 5 first.now.plain.rank heads.now first.now.plain second.now.plain (side_of a.now) (side_of b.now) lengths_differ) result }
+    ensures { Judges (sides_asked place first.now.plain.rank heads.now first.now.plain second.now.plain (side_of a.now) (side_of b.now) lengths_differ) result }
 {
     let met = a.end.length() != b.end.length();
-    judge_sides(alloc, heads, first, second, a, b, met)
+    judge_sides(alloc, place, heads, first, second, a, b, met)
 }
 
-/// Judges the sides and the level of a no.
+/// Judges the sides and the level of a no, from a place on.
 fn judge_no_level(
     alloc: Global,
+    place: usize,
     heads: &[(Letter, u32)],
     first: &Tuple,
     second: &Tuple,
@@ -143,37 +146,40 @@ fn judge_no_level(
     b: &Side,
     tuples: &[Tuple],
 ) -> Result<(), Stop>
+    requires low { place ≤ 5 }
     requires one_rank { second.now.plain.rank ≡ first.now.plain.rank }
     requires a { IsSideOfRank first.now.plain.rank (side_of a.now) }
     requires b { IsSideOfRank first.now.plain.rank (side_of b.now) }
     requires heads { 2 * first.now.plain.rank ≤ length heads.now }
-    requires ranks { All (λ t. t.plain.rank ≤ 6) tuples.now }
-    ensures { Judges (sides_asked 5 first.now.plain.rank heads.now first.now.plain second.now.plain (side_of a.now) (side_of b.now) lengths_agree ++ level_asked (5 + 2 * spec.side_lines first.now.plain.rank) a.now.end.plain b.now.end.plain (plains tuples.now)) result }
+    requires ranks { All (λ t. t.plain.rank ≤ most_level_rank) tuples.now }
+    ensures { Judges (sides_asked place first.now.plain.rank heads.now first.now.plain second.now.plain (side_of a.now) (side_of b.now) lengths_agree ++ level_asked (place + 2 * spec.side_lines first.now.plain.rank) a.now.end.plain b.now.end.plain (plains tuples.now)) result }
 {
     let met = a.end.length() == b.end.length();
-    judge_sides(alloc, heads, first, second, a, b, met)?;
-    let place = BEFORE_SIDES + 2 * side_lines(first.rank());
-    judge_level(alloc, place, &a.end, &b.end, tuples)
+    judge_sides(alloc, place, heads, first, second, a, b, met)?;
+    let after = place + 2 * side_lines(first.rank());
+    judge_level(alloc, after, &a.end, &b.end, tuples)
 }
 
-/// Judges the lines after the verdict on two tuples.
+/// Judges the lines after the verdict on two tuples, of which the first is at a place.
 fn judge_verdict(
     alloc: Global,
+    place: usize,
     heads: &[(Letter, u32)],
     first: &Tuple,
     second: &Tuple,
     verdict: &Verdict,
 ) -> Result<(), Stop>
+    requires low { place ≤ 5 }
     requires one_rank { second.now.plain.rank ≡ first.now.plain.rank }
     requires verdict { IsVerdictOfRank first.now.plain.rank (verdict_of verdict.now) }
     requires heads { length heads.now ≡ verdict_flows first.now.plain.rank (verdict_of verdict.now) }
-    ensures { Judges (verdict_asked heads.now first.now.plain second.now.plain (verdict_of verdict.now)) result }
+    ensures { Judges (verdict_asked place heads.now first.now.plain second.now.plain (verdict_of verdict.now)) result }
 {
     match verdict {
-        Verdict::Yes(moves) => judge_moves(alloc, BEFORE_SIDES, first, second, moves.items()),
-        Verdict::NoLength(a, b) => judge_no_length(alloc, heads, first, second, a, b),
+        Verdict::Yes(moves) => judge_moves(alloc, place, first, second, moves.items()),
+        Verdict::NoLength(a, b) => judge_no_length(alloc, place, heads, first, second, a, b),
         Verdict::NoLevel(a, b, tuples) => {
-            judge_no_level(alloc, heads, first, second, a, b, tuples.items())
+            judge_no_level(alloc, place, heads, first, second, a, b, tuples.items())
         }
         // No certificate has this verdict.
         Verdict::Undecided(_) => Ok(()),
@@ -186,13 +192,14 @@ fn judge_answer(alloc: Global, heads: &[(Letter, u32)], answer: &Answer) -> Resu
     requires heads { length heads.now ≡ flow_lines (answer_of answer.now) }
     ensures { Judges (asked heads.now (answer_of answer.now)) result }
 {
+    let place = answer.head_lines();
     match answer {
-        Answer::Reduce { tuple, side } => judge_side(alloc, 3, heads, tuple, side),
+        Answer::Reduce { tuple, side } => judge_side(alloc, place, heads, tuple, side),
         Answer::Decide {
             first,
             second,
             verdict,
-        } => judge_verdict(alloc, heads, first, second, verdict),
+        } => judge_verdict(alloc, place, heads, first, second, verdict),
     }
 }
 

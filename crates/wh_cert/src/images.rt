@@ -1,5 +1,6 @@
 //! The images of a tuple under its level moves, looked up in a list.
 ghost use Rattle.std.specs.Prelude.{◌≡◌, ◌↔◌, ◌*◌, ◌^◌, ◌≤◌, IsTrue, Contains, IfOk};
+ghost use Rattle.wh_words.specs.Limits.{most_rank, most_level_rank};
 ghost use Rattle.wh_words.specs.LetterSets.{in_set};
 ghost use Rattle.wh_words.specs.Tuples.{IsTuple};
 ghost use Rattle.wh_words.specs.Moves.{cut_move};
@@ -11,15 +12,15 @@ ghost use Rattle.wh_cert.specs.Demands.{ImagesAreIn};
 ghost use Rattle.wh_cert.specs.Listings.{StaysIn, SwapsStay, InversionsStay, CutsStayWith, CutsStay, IsRoomy};
 ghost use Rattle.wh_graph.specs.CapacityTables.{IsTable, tuple_capacity};
 
-use crate::listed::Listed;
 use std::alloc::Global;
 use wh_flow::Net;
 use wh_graph::{capacity_table, deg, graph};
 use wh_moves::{Move, act_into};
+use wh_sets::TupleSet;
 use wh_words::{Letter, LetterSet, OutOfMemory, Tuple};
 
 /// Whether the image of a tuple under a level move, which `image` becomes, is in a list. It takes no memory.
-fn image_is_in(listed: &Listed, tuple: &Tuple, m: &Move, image: &mut Tuple) -> bool
+fn image_is_in(listed: &TupleSet, tuple: &Tuple, m: &Move, image: &mut Tuple) -> bool
     requires tuple { IsTuple tuple.now.plain }
     requires level { IsLevelMove tuple.now.plain m.now }
     requires roomy { IsRoomy image.old }
@@ -31,7 +32,7 @@ fn image_is_in(listed: &Listed, tuple: &Tuple, m: &Move, image: &mut Tuple) -> b
 }
 
 /// Whether a tuple stays in a list under all swaps. They keep its length.
-fn swaps_stay(listed: &Listed, tuple: &Tuple, image: &mut Tuple) -> bool
+fn swaps_stay(listed: &TupleSet, tuple: &Tuple, image: &mut Tuple) -> bool
     requires roomy { IsRoomy image.old }
     ensures stay { IsTrue result ↔ SwapsStay listed.now tuple.now.plain }
     ensures roomy { IsRoomy image.new }
@@ -46,7 +47,7 @@ fn swaps_stay(listed: &Listed, tuple: &Tuple, image: &mut Tuple) -> bool
 }
 
 /// Whether a tuple stays in a list under all inversions. They keep its length.
-fn inversions_stay(listed: &Listed, tuple: &Tuple, image: &mut Tuple) -> bool
+fn inversions_stay(listed: &TupleSet, tuple: &Tuple, image: &mut Tuple) -> bool
     requires roomy { IsRoomy image.old }
     ensures stay { IsTrue result ↔ InversionsStay listed.now tuple.now.plain }
     ensures roomy { IsRoomy image.new }
@@ -63,13 +64,13 @@ fn inversions_stay(listed: &Listed, tuple: &Tuple, image: &mut Tuple) -> bool
 /// Whether a tuple stays in a list under the cut with a set whose capacity is the degree of the multiplier. It does if
 /// that is no cut, or an identity cut.
 fn cut_stays(
-    listed: &Listed,
+    listed: &TupleSet,
     tuple: &Tuple,
     mult: Letter,
     set: LetterSet,
     image: &mut Tuple,
 ) -> bool
-    requires rank { tuple.now.plain.rank ≤ 26 }
+    requires rank { tuple.now.plain.rank ≤ most_rank }
     requires keeps { cap (in_set set) tuple.now.plain ≡ deg mult tuple.now.plain }
     requires roomy { IsRoomy image.old }
     ensures stay { IsTrue result ↔ StaysIn listed.now tuple.now.plain (cut_move tuple.now.plain.rank mult set) }
@@ -87,14 +88,14 @@ fn cut_stays(
 /// Whether a tuple stays in a list under all cuts with a multiplier. Those keep the length whose set has the degree of
 /// the multiplier as its capacity (Lyndon and Schupp, I.4), so that no other image is made.
 fn cuts_stay_with(
-    listed: &Listed,
+    listed: &TupleSet,
     tuple: &Tuple,
     mult: Letter,
     degree: u32,
     capacities: &[u32],
     image: &mut Tuple,
 ) -> bool
-    requires rank { tuple.now.plain.rank ≤ 26 }
+    requires rank { tuple.now.plain.rank ≤ most_rank }
     requires tuple { IsTuple tuple.now.plain }
     requires degree { degree ≡ deg mult tuple.now.plain }
     requires capacities { IsTable (tuple_capacity tuple.now.plain) (2 ^ (2 * tuple.now.plain.rank)) capacities.now }
@@ -114,7 +115,7 @@ fn cuts_stay_with(
 
 /// Whether a tuple stays in a list under all cuts with generators as multipliers.
 fn cuts_stay(
-    listed: &Listed,
+    listed: &TupleSet,
     tuple: &Tuple,
     net: &Net,
     capacities: &[u32],
@@ -140,12 +141,12 @@ fn cuts_stay(
 /// multiplier have one image, so that generators are all the multipliers that are needed.
 pub(crate) fn images_are_in(
     alloc: Global,
-    listed: &Listed,
+    listed: &TupleSet,
     tuple: &Tuple,
     image: &mut Tuple,
 ) -> Result<bool, OutOfMemory>
     requires tuple { IsTuple tuple.now.plain }
-    requires rank { tuple.now.plain.rank ≤ 6 }
+    requires rank { tuple.now.plain.rank ≤ most_level_rank }
     requires own { Contains listed.now tuple.now.plain }
     requires roomy { IsRoomy image.old }
     ensures are { IfOk result (λ b. IsTrue b ↔ ImagesAreIn listed.now tuple.now.plain) }

@@ -1,18 +1,20 @@
 //! The lines of a level.
 ghost use Rattle.std.specs.Prelude.{◌↔◌, ◌+◌, ◌<◌, ◌≤◌, List, [], ◌∷◌, length, Contains, IsTrue, IfOk};
 ghost use Rattle.std.specs.List.{All};
+ghost use Rattle.wh_words.specs.Limits.{most_level_rank};
 ghost use Rattle.wh_words.specs.Tuples.{TupleData};
+ghost use Rattle.wh_sets.specs.TupleSets.{HaveSameTuples};
 ghost use Rattle.wh_text.specs.AnswerData.{plains};
 ghost use Rattle.wh_cert.specs.Demands.{Rises, rises, has_height, is_absent, is_closed, tuple_at, asked_below, at_asked, level_asked};
-ghost use Rattle.wh_cert.specs.Listings.{HaveSameTuples, IsRoomy};
+ghost use Rattle.wh_cert.specs.Listings.{IsRoomy};
 ghost use Rattle.wh_cert.specs.Judged.{Judges};
 
 use crate::checked::Rule;
 use crate::images::images_are_in;
-use crate::listed::Listed;
 use crate::stop::{Stop, ask};
 use std::alloc::Global;
-use wh_words::{OutOfMemory, Tuple};
+use wh_sets::TupleSet;
+use wh_words::{MOST_LETTERS, MOST_WORDS, OutOfMemory, Tuple};
 
 /// Whether a tuple is greater than the one before it, if any.
 fn is_greater(tuples: &[Tuple], k: usize) -> bool
@@ -45,11 +47,11 @@ fn judge_tuple(
 fn judge_images(
     alloc: Global,
     place: usize,
-    listed: &Listed,
+    listed: &TupleSet,
     tuple: &Tuple,
     image: &mut Tuple,
 ) -> Result<(), Stop>
-    requires rank { tuple.now.plain.rank ≤ 6 }
+    requires rank { tuple.now.plain.rank ≤ most_level_rank }
     requires own { Contains listed.now tuple.now.plain }
     requires roomy { IsRoomy image.old }
     ensures judges { (ts : List TupleData) → HaveSameTuples listed.now ts → Judges ((place, is_closed ts tuple.now.plain) ∷ []) result }
@@ -65,7 +67,7 @@ fn judge_images(
 fn roomy(alloc: Global, tuple: &Tuple) -> Result<Tuple, OutOfMemory>
     ensures { IfOk result IsRoomy }
 {
-    Tuple::with_room(alloc, tuple.rank(), 64, 4096)
+    Tuple::with_room(alloc, tuple.rank(), MOST_WORDS, MOST_LETTERS as usize)
 }
 
 /// Judges the `at` lines of a level of rank 6 at most, of which the first is at a place.
@@ -75,9 +77,9 @@ fn judge_tuples(
     root: &Tuple,
     second: &Tuple,
     tuples: &[Tuple],
-    listed: &Listed,
+    listed: &TupleSet,
 ) -> Result<(), Stop>
-    requires ranks { All (λ t. t.plain.rank ≤ 6) tuples.now }
+    requires ranks { All (λ t. t.plain.rank ≤ most_level_rank) tuples.now }
     requires same { HaveSameTuples listed.now (plains tuples.now) }
     requires low { place ≤ 1000 }
     ensures { Judges (asked_below (at_asked place root.now.plain second.now.plain (plains tuples.now)) (length (plains tuples.now))) result }
@@ -98,11 +100,11 @@ pub(crate) fn judge_level(
     second: &Tuple,
     tuples: &[Tuple],
 ) -> Result<(), Stop>
-    requires ranks { All (λ t. t.plain.rank ≤ 6) tuples.now }
+    requires ranks { All (λ t. t.plain.rank ≤ most_level_rank) tuples.now }
     requires low { place < 1000 }
     ensures { Judges (level_asked place root.now.plain second.now.plain (plains tuples.now)) result }
 {
-    let listed = Listed::of(alloc, tuples)?;
+    let listed = TupleSet::of(alloc, tuples)?;
     ask(place, Rule::Root, listed.has(root))?;
     judge_tuples(alloc, place + 1, root, second, tuples, &listed)
 }

@@ -6,7 +6,6 @@ mod checked;
 mod images;
 pub mod laws;
 mod levels;
-mod listed;
 mod sides;
 mod stop;
 

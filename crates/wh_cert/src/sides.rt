@@ -1,6 +1,7 @@
 //! The lines of a side.
 ghost use Rattle.std.specs.Prelude.{◌≡◌, ◌↔◌, ◌+◌, ◌*◌, ◌<◌, ◌≤◌, length, IsTrue, IfOk};
 ghost use Rattle.std.specs.List.{All};
+ghost use Rattle.wh_words.specs.Limits.{most_rank};
 ghost use Rattle.wh_words.specs.Tuples.{TupleData, IsTuple};
 ghost use Rattle.wh_words.specs.Flows.{HasValue};
 ghost use Rattle.wh_flow.specs.Nets.{cell};
@@ -66,8 +67,8 @@ fn has_value(flow: &Flow, letter: Letter, value: u32) -> bool
 /// Whether a line that names a letter and a value tells the flow of generator g, counted from 0: a flow from the letter of
 /// the generator to its inverse in a graph, whose value is the degree.
 fn is_generator_flow(net: &Net, g: u8, head: (Letter, u32), flow: &Flow) -> bool
-    requires g { g < 26 }
-    requires rank { net.now.rank ≤ 26 }
+    requires g { g < most_rank }
+    requires rank { net.now.rank ≤ most_rank }
     ensures { (end : TupleData) → IsTuple end → IsGraph net.now end → IsTrue result ↔ IsGeneratorFlow end g head flow.now }
 {
     let (letter, value) = head;

@@ -23,15 +23,15 @@ either a = elim (cases_eq (a % 2) 0) [ inl e ↦ inl (omega (arith, e)) | inr n 
 run_some : (a : ℕ) → 0 < run a
 run_some a = pow_pos (before a)
 
+twice : (k : ℕ) → 2 ^ suc k ≡ 2 * 2 ^ k
+twice k = omega arith
+
 -- The first set that holds a letter is the run's length or twice it.
 first_runs : (a : ℕ) → (2 ^ a ≡ run a) ⊎ (2 ^ a ≡ 2 * run a)
 first_runs a = elim (either a) [
   | inl e ↦ inl (ap (λ k. 2 ^ k) e)
   | inr e ↦ inr (ap (λ k. 2 ^ k) e ∙ twice (before a))
 ]
-  where
-    twice : (k : ℕ) → 2 ^ suc k ≡ 2 * 2 ^ k
-    twice k = omega arith
 
 -- ---- which sets hold the multiplier and omit its inverse
 high_bit : (v k i : ℕ) → bit_at v (k + i) ≡ bit_at (v / 2 ^ k) i
@@ -69,9 +69,6 @@ cut_run n a v is = elim (either a) [
       let omits : v / run a % 2 ≡ 0 = sym (low_bit v (before a)) ∙ ap (bit_at v) (sym (inverse_odd a e)) ∙ is.omits in
       inr (ap (λ k. 2 ^ k) e ∙ twice (before a), omega (arith, holds, omits))
 ]
-  where
-    twice : (k : ℕ) → 2 ^ suc k ≡ 2 * 2 ^ k
-    twice k = omega arith
 
 quotient_between : (r v m : ℕ) → 0 < r → (m + 1) * r ≤ v → v < (m + 4) * r → (m + 1 ≤ v / r) × (v / r < m + 4)
 quotient_between r v m some l h = (le-div (m + 1) v r some l, div_below v r (m + 4) some h)

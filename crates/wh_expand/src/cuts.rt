@@ -1,5 +1,6 @@
 //! The cuts that keep the length of a tuple.
 ghost use Rattle.std.specs.Prelude.{◌≡◌, ◌+◌, ◌*◌, ◌^◌, ◌<◌, ◌≤◌, OnOk};
+ghost use Rattle.wh_words.specs.Limits.{most_level_rank};
 ghost use Rattle.wh_words.specs.LetterSets.{in_set};
 ghost use Rattle.wh_words.specs.Tuples.{IsTuple};
 ghost use Rattle.wh_words.specs.Moves.Kind.{cut};
@@ -19,7 +20,7 @@ fn push_cut(
     mult: Letter,
     set: LetterSet,
 ) -> Result<(), OutOfMemory>
-    requires rank { tuple.now.plain.rank ≤ 6 }
+    requires rank { tuple.now.plain.rank ≤ most_level_rank }
     requires keeps { cap (in_set set) tuple.now.plain ≡ deg mult tuple.now.plain }
     requires before { AreLevelMovesBefore tuple.now.plain (cut mult set) moves.old.items }
     ensures { OnOk result (AreLevelMovesBefore tuple.now.plain (cut mult (set + 1)) moves.new.items) }
@@ -44,7 +45,7 @@ fn push_run(
     end: usize,
 ) -> Result<(), OutOfMemory>
     requires tuple { IsTuple tuple.now.plain }
-    requires rank { tuple.now.plain.rank ≤ 6 }
+    requires rank { tuple.now.plain.rank ≤ most_level_rank }
     requires degree { degree ≡ deg mult tuple.now.plain }
     requires capacities { IsTable (tuple_capacity tuple.now.plain) (2 ^ (2 * tuple.now.plain.rank)) capacities.now }
     requires order { start ≤ end }
@@ -71,7 +72,7 @@ fn push_cuts_with(
     capacities: &[u32],
 ) -> Result<(), OutOfMemory>
     requires tuple { IsTuple tuple.now.plain }
-    requires rank { tuple.now.plain.rank ≤ 6 }
+    requires rank { tuple.now.plain.rank ≤ most_level_rank }
     requires of_rank { mult < 2 * tuple.now.plain.rank }
     requires degree { degree ≡ deg mult tuple.now.plain }
     requires capacities { IsTable (tuple_capacity tuple.now.plain) (2 ^ (2 * tuple.now.plain.rank)) capacities.now }
@@ -93,7 +94,7 @@ pub(crate) fn push_cuts(
     moves: &mut Vec<Move>,
     tuple: &Tuple,
 ) -> Result<(), OutOfMemory>
-    requires rank { tuple.now.plain.rank ≤ 6 }
+    requires rank { tuple.now.plain.rank ≤ most_level_rank }
     requires before { AreLevelMovesBefore tuple.now.plain (cut 0 0) moves.old.items }
     ensures { OnOk result (AreLevelMovesBefore tuple.now.plain (cut (2 * tuple.now.plain.rank) 0) moves.new.items) }
 {

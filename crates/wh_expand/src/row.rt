@@ -1,5 +1,6 @@
 //! Rows: a tuple with its level moves.
-ghost use Rattle.std.specs.Prelude.{◌≡◌, ◌+◌, ◌≤◌, OnOk, IfOk};
+ghost use Rattle.std.specs.Prelude.{◌≡◌, ◌+◌, ◌≤◌, [], OnOk, IfOk};
+ghost use Rattle.wh_words.specs.Limits.{most_level_rank};
 ghost use Rattle.wh_words.specs.Tuples.{own_room};
 ghost use Rattle.wh_words.specs.Moves.Kind.{swap, invert, cut};
 ghost use Rattle.wh_expand.specs.FirstLevelMoves.{AreLevelMovesBefore};
@@ -42,6 +43,29 @@ fn push_inversions(moves: &mut Vec<Move>, tuple: &Tuple) -> Result<(), OutOfMemo
     Ok(())
 }
 
+/// Adds all level moves of a tuple, in the order of moves.
+fn push_level_moves(alloc: Global, moves: &mut Vec<Move>, tuple: &Tuple) -> Result<(), OutOfMemory>
+    requires rank { tuple.now.plain.rank ≤ most_level_rank }
+    requires none { moves.old.items ≡ [] }
+    ensures { OnOk result (AreLevelMoves tuple.now.plain moves.new.items) }
+{
+    push_swaps(moves, tuple)?;
+    push_inversions(moves, tuple)?;
+    push_cuts(alloc, moves, tuple)?;
+    Ok(())
+}
+
+/// The level moves of a tuple, in the order of moves, in memory of just their size: rows are kept in great numbers, and
+/// none in what a longer list leaves over.
+fn own_level_moves(alloc: Global, tuple: &Tuple) -> Result<Vec<Move>, OutOfMemory>
+    requires { tuple.now.plain.rank ≤ most_level_rank }
+    ensures { IfOk result (λ v. AreLevelMoves tuple.now.plain v.items) }
+{
+    let mut moves = Vec::new(alloc);
+    push_level_moves(alloc, &mut moves, tuple)?;
+    Ok(Vec::from_slice(alloc, &moves)?)
+}
+
 /// The level moves of a tuple of rank 6 at most, in the order of moves: each move of its rank that keeps its length and
 /// is no identity cut. It takes one step. The tuple needn't be flat (Lyndon and Schupp, I.4).
 pub fn level_moves<L: Ledger>(
@@ -49,20 +73,14 @@ pub fn level_moves<L: Ledger>(
     tuple: &Tuple,
     steps: &mut Steps<L>,
 ) -> Result<Row, OutOfMemory>
-    requires { tuple.now.plain.rank ≤ 6 }
+    requires { tuple.now.plain.rank ≤ most_level_rank }
     ensures tuple { IfOk result (λ r. r.tuple ≡ own_room tuple.now.plain) }
     ensures moves { IfOk result (λ r. AreLevelMoves tuple.now.plain r.moves) }
     ensures step { steps.new ≡ steps.old + 1 }
 {
     steps.tick();
-    let mut moves = Vec::with_capacity(alloc, 2 * tuple.rank().get() as usize)?;
-    push_swaps(&mut moves, tuple)?;
-    push_inversions(&mut moves, tuple)?;
-    push_cuts(alloc, &mut moves, tuple)?;
-    // Rows are kept in great numbers: each in memory of just its size, and none in what a longer list leaves over.
-    let own_moves = Vec::from_slice(alloc, &moves)?;
     Ok(Row {
+        moves: List::of(own_level_moves(alloc, tuple)?),
         tuple: tuple.copy(alloc)?,
-        moves: List::of(own_moves),
     })
 }

@@ -35,8 +35,8 @@ moved-on f g h p q r d a b v l = omega (arith, a v l, b v l)
 pub moved-back : (f g h : ℕ → ℕ → ℕ) (p q d : ℕ) → IsMoved f g p q d → IsMoved g h q p d → HaveOneNetFlow f h
 moved-back f g h p q d a b v l = omega (arith, a v l, b v l)
 
-pub nets-on : (f g h : ℕ → ℕ → ℕ) → HaveOneNetFlow f g → HaveOneNetFlow g h → HaveOneNetFlow f h
-nets-on f g h a b v l = omega (arith, a v l, b v l)
+pub nets_on : (f g h : ℕ → ℕ → ℕ) → HaveOneNetFlow f g → HaveOneNetFlow g h → HaveOneNetFlow f h
+nets_on f g h a b v l = omega (arith, a v l, b v l)
 
 -- A flow stays one.
 pub still-flow : (c f g : ℕ → ℕ → ℕ) (s t : ℕ) → IsFlow c f s t → IsWithin c g → HaveOneNetFlow f g → IsFlow c g s t

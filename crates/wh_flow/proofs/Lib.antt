@@ -6,8 +6,8 @@ pub mod Cells
 pub mod Entries
 pub mod NetEdges
 pub mod Pushes
-pub mod Ways
-pub mod NotedWays
+pub mod Successors
+pub mod NotedEdges
 pub mod FreshLetters
 pub mod Searching
 pub mod Reached

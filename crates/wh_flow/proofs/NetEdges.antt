@@ -1,7 +1,8 @@
 -- A network without edges is one, and stays one when an edge is added.
-use Rattle.std.proofs.Common.{◌≡◌, ◌≢◌, ℕ, ◌+◌, ◌*◌, ◌<◌, ◌≤◌, ◌==◌, ◌&&◌, ◌||◌, Bool, true, false, cond, refl, sym, ap, ◌∙◌, inl, inr, ◌⊎◌, arith, List, length, replicate}
+use Rattle.std.proofs.Common.{◌≡◌, ◌≢◌, ℕ, ◌+◌, ◌*◌, ◌<◌, ◌≤◌, ◌==◌, ◌&&◌, cond, refl, sym, ap, ◌∙◌, inl, inr, ◌⊎◌, arith, List, length, replicate}
 use Rattle.std.proofs.lemmas.Bool.{cases_eq, cases_lt, eq-eqb, ne_eqb}
 use Rattle.std.proofs.lemmas.List.{length-replicate}
+use Rattle.std.proofs.Math.Bool.{and-false, or_comm}
 use Rattle.wh_words.specs.Flows.{sum_below}
 use Rattle.wh_words.specs.Edges.{joins}
 use Rattle.wh_flow.specs.Nets.{Net, IsNet, cell, edge_count}
@@ -31,10 +32,6 @@ empty_net r h = record {
 abbrev pub joined : ℕ → ℕ → ℕ → ℕ → ℕ
 joined x y u v = cond (joins u v (x, y)) 1 0
 
-and-false : (b : Bool) → (b && false) ≡ false
-and-false true = refl
-and-false false = refl
-
 module _ (x y : ℕ) (ne : x ≢ y) where
   pub joined-there : joined x y x y ≡ 1
   joined-there = simp (eq-eqb x x refl, eq-eqb y y refl)
@@ -54,13 +51,7 @@ module _ (x y : ℕ) (ne : x ≢ y) where
   ]
 
 pub joined-turned : (x y u v : ℕ) → joined x y u v ≡ joined x y v u
-joined-turned x y u v = ap (λ b. cond {A = ℕ} b 1 0) (either ((x == u) && (y == v)) ((x == v) && (y == u)))
-  where
-    either : (a b : Bool) → (a || b) ≡ (b || a)
-    either true true = refl
-    either true false = refl
-    either false true = refl
-    either false false = refl
+joined-turned x y u v = ap (λ b. cond {A = ℕ} b 1 0) (or_comm ((x == u) && (y == v)) ((x == v) && (y == u)))
 
 -- ---- a table to which an edge was added
 module _ (l m : List ℕ) (x y : ℕ) (hx : x < 52) (hy : y < 52) (ne : x ≢ y)

@@ -6,7 +6,7 @@ use Rattle.std.proofs.lemmas.Bool.Decides.{nat_tests}
 use Rattle.wh_words.specs.LetterSets.{in_set}
 use Rattle.wh_words.specs.Flows.{outflow, inflow, IsWithin, place}
 use Rattle.wh_flow.specs.Nets.{cell}
-use Rattle.wh_flow.specs.Searches.{room, goes_back, Grew, IsOfLetters, IsShifted, IsPushed, IsLed}
+use Rattle.wh_flow.specs.Searches.{residual, goes_back, Grew, IsOfLetters, IsShifted, IsPushed, IsLed}
 use Rattle.wh_flow.proofs.Cells.{cell-same, cell-other, place-apart}
 use Rattle.wh_flow.proofs.Entries.{raised-moved, lowered-moved, moved-on}
 
@@ -44,19 +44,19 @@ module _ (cap old : List ℕ) (from x y d : ℕ) (size : length old ≡ 2704) (h
       here : cell (slice_set old (52 * x + y) (cell old x y + d)) x y ≡ cell old x y + d
       here = cell-same old x y (cell old x y + d) size hx hy
 
-pub room_lowers : (cap flow : List ℕ) (from x y : ℕ) → goes_back flow from x y ≡ true → (from ≤ 52 * y + x) × (room cap flow from x y ≡ cell flow y x)
-room_lowers cap flow from x y e = (grind (arith, nat_tests), ap (λ b. cond b (cell flow y x) (cond (leb from (52 * x + y)) (cell cap x y - cell flow x y) 0)) e)
+pub residual_lowers : (cap flow : List ℕ) (from x y : ℕ) → goes_back flow from x y ≡ true → (from ≤ 52 * y + x) × (residual cap flow from x y ≡ cell flow y x)
+residual_lowers cap flow from x y e = (grind (arith, nat_tests), ap (λ b. cond b (cell flow y x) (cond (leb from (52 * x + y)) (cell cap x y - cell flow x y) 0)) e)
 
-pub room_raises : (cap flow : List ℕ) (from x y d : ℕ) → goes_back flow from x y ≡ false → 0 < d → d ≤ room cap flow from x y → (from ≤ 52 * x + y) × (cell flow x y + d ≤ cell cap x y)
-room_raises cap flow from x y d e h l = below (leb from (52 * x + y)) refl (subst (λ (b : Bool). d ≤ cond b (cell flow y x) (cond (leb from (52 * x + y)) (cell cap x y - cell flow x y) 0)) e l)
+pub residual_raises : (cap flow : List ℕ) (from x y d : ℕ) → goes_back flow from x y ≡ false → 0 < d → d ≤ residual cap flow from x y → (from ≤ 52 * x + y) × (cell flow x y + d ≤ cell cap x y)
+residual_raises cap flow from x y d e h l = below (leb from (52 * x + y)) refl (subst (λ (b : Bool). d ≤ cond b (cell flow y x) (cond (leb from (52 * x + y)) (cell cap x y - cell flow x y) 0)) e l)
   where
     below : (b : Bool) → leb from (52 * x + y) ≡ b → d ≤ cond b (cell cap x y - cell flow x y) 0 → (from ≤ 52 * x + y) × (cell flow x y + d ≤ cell cap x y)
     below true k m = (grind (arith, nat_tests), omega (arith, m, h))
     below false k m = absurd (omega (arith, m, h))
 
--- An edge without room.
-pub no_room : (cap flow : List ℕ) (from x y : ℕ) → room cap flow from x y ≡ 0 → (from ≤ 52 * x + y → cell cap x y ≤ cell flow x y) × (from ≤ 52 * y + x → cell flow y x ≡ 0)
-no_room cap flow from x y e = (grind (arith, nat_tests), grind (arith, nat_tests))
+-- An edge without residual capacity.
+pub no_residual : (cap flow : List ℕ) (from x y : ℕ) → residual cap flow from x y ≡ 0 → (from ≤ 52 * x + y → cell cap x y ≤ cell flow x y) × (from ≤ 52 * y + x → cell flow y x ≡ 0)
+no_residual cap flow from x y e = (grind (arith, nat_tests), grind (arith, nat_tests))
 
 pub pushed_none : (cap flow : List ℕ) (seen : ℕ) (from v t d : ℕ) → IsWithin (cell cap) (cell flow) → v ≡ t → IsPushed cap flow flow seen from v t d
 pushed_none cap flow seen from v t d w e = record {
@@ -78,18 +78,18 @@ pushed_on cap f g h old seen from v y t d lv ly nv ny grew p s = record {
   column = λ a b i j e. p.column a b i j (grew b e) ∙ s.column a b i j (λ k. true≢false (sym e ∙ ap (in_set old) k ∙ nv)) (λ k. true≢false (sym (grew b e) ∙ ap (in_set seen) k ∙ ny));
 }
 
-room-at : ℕ → ℕ → ℕ → ℕ → ℕ → ℕ → ℕ
-room-at from x y back there c = cond (leb from (52 * y + x) && ltb 0 back) back (cond (leb from (52 * x + y)) (c - there) 0)
+residual-at : ℕ → ℕ → ℕ → ℕ → ℕ → ℕ → ℕ
+residual-at from x y back there c = cond (leb from (52 * y + x) && ltb 0 back) back (cond (leb from (52 * x + y)) (c - there) 0)
 
--- A way by letters that weren't seen leaves the room from a seen letter.
-pub room_kept : (cap f g : List ℕ) (seen : ℕ) (from v y t d : ℕ) → v < 52 → y < 52 → in_set seen v ≡ true → IsPushed cap f g seen from y t d → room cap f from v y ≡ room cap g from v y
-unfolding room-at
-room_kept cap f g seen from v y t d lv ly e p =
-    ap (λ b. room-at from v y b (cell f v y) (cell cap v y)) (p.column y v ly lv e) ∙ ap (λ a. room-at from v y (cell g y v) a (cell cap v y)) (p.row v y lv ly e)
+-- A way by letters that weren't seen keeps the residual capacities from a seen letter.
+pub residual_kept : (cap f g : List ℕ) (seen : ℕ) (from v y t d : ℕ) → v < 52 → y < 52 → in_set seen v ≡ true → IsPushed cap f g seen from y t d → residual cap f from v y ≡ residual cap g from v y
+unfolding residual-at
+residual_kept cap f g seen from v y t d lv ly e p =
+    ap (λ b. residual-at from v y b (cell f v y) (cell cap v y)) (p.column y v ly lv e) ∙ ap (λ a. residual-at from v y (cell g y v) a (cell cap v y)) (p.row v y lv ly e)
 
 -- ---- letters past the rank
-pub past_no_room : (letters : ℕ) (cap flow : List ℕ) (from x y : ℕ) → IsOfLetters letters cap → IsWithin (cell cap) (cell flow) → x < 52 → y < 52 → letters ≤ y → room cap flow from x y ≡ 0
-past_no_room letters cap flow from x y o w h i l = none (goes_back flow from x y) (leb from (52 * x + y)) (cell flow y x) (cell cap x y - cell flow x y)
+pub past_no_residual : (letters : ℕ) (cap flow : List ℕ) (from x y : ℕ) → IsOfLetters letters cap → IsWithin (cell cap) (cell flow) → x < 52 → y < 52 → letters ≤ y → residual cap flow from x y ≡ 0
+past_no_residual letters cap flow from x y o w h i l = none (goes_back flow from x y) (leb from (52 * x + y)) (cell flow y x) (cell cap x y - cell flow x y)
     (omega (arith, w y x i h, o y x i h (inl l))) (omega (arith, o x y h i (inr l)))
   where
     none : (b c : Bool) (back more : ℕ) → back ≡ 0 → more ≡ 0 → cond b back (cond c more 0) ≡ 0
@@ -102,20 +102,20 @@ pub led_here : (cap flow : List ℕ) (seen v : ℕ) → length flow ≡ 2704 →
 led_here cap flow seen v size w = record { new = flow; size = size; pushed = pushed_none cap flow seen 0 v v 1 w refl }
 
 pub led_on : (cap f : List ℕ) (old seen v y x : ℕ) → v < 52 → y < 52 → in_set old v ≡ false → in_set seen v ≡ true → in_set seen y ≡ false → Grew old seen
-    → 0 < room cap f 0 v y → IsLed cap f seen y x → IsLed cap f old v x
+    → 0 < residual cap f 0 v y → IsLed cap f seen y x → IsLed cap f old v x
 led_on cap f old seen v y x lv ly nv sv ny grew rm led = shifted (cases_Bool (goes_back led.new 0 v y))
   where
-    there : 0 < room cap led.new 0 v y
-    there = subst (λ (k : ℕ). 0 < k) (room_kept cap f led.new seen 0 v y x 1 lv ly sv led.pushed) rm
+    there : 0 < residual cap led.new 0 v y
+    there = subst (λ (k : ℕ). 0 < k) (residual_kept cap f led.new seen 0 v y x 1 lv ly sv led.pushed) rm
 
     shifted : (goes_back led.new 0 v y ≡ true) ⊎ (goes_back led.new 0 v y ≡ false) → IsLed cap f old v x
-    shifted (inl b) = let r : (0 ≤ 52 * y + v) × (room cap led.new 0 v y ≡ cell led.new y v) = room_lowers cap led.new 0 v y b in record {
+    shifted (inl b) = let r : (0 ≤ 52 * y + v) × (residual cap led.new 0 v y ≡ cell led.new y v) = residual_lowers cap led.new 0 v y b in record {
       new = slice_set led.new (52 * y + v) (cell led.new y v - 1);
       size = length-set led.new (52 * y + v) (cell led.new y v - 1) ∙ led.size;
       pushed = pushed_on cap f led.new (slice_set led.new (52 * y + v) (cell led.new y v - 1)) old seen 0 v y x 1 lv ly nv ny grew led.pushed
           (lowered cap led.new 0 v y 1 led.size lv ly led.pushed.within (omega (arith, there, r.1)) r.0);
     }
-    shifted (inr b) = let r : (0 ≤ 52 * v + y) × (cell led.new v y + 1 ≤ cell cap v y) = room_raises cap led.new 0 v y 1 b (omega arith) there in record {
+    shifted (inr b) = let r : (0 ≤ 52 * v + y) × (cell led.new v y + 1 ≤ cell cap v y) = residual_raises cap led.new 0 v y 1 b (omega arith) there in record {
       new = slice_set led.new (52 * v + y) (cell led.new v y + 1);
       size = length-set led.new (52 * v + y) (cell led.new v y + 1) ∙ led.size;
       pushed = pushed_on cap f led.new (slice_set led.new (52 * v + y) (cell led.new v y + 1)) old seen 0 v y x 1 lv ly nv ny grew led.pushed

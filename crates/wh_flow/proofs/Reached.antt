@@ -8,10 +8,10 @@ use Rattle.wh_words.specs.LetterSets.{in_set}
 use Rattle.wh_words.specs.Flows.{IsFlow, IsWithin, HasMoreValueThan, FillsLeastCut, IsMaximum, IsLeastCut, IsClosed, Separates, IsReach}
 use Rattle.wh_flow.specs.Nets.{cell}
 use Rattle.wh_flow.specs.Rerouting.{IsClosedFrom}
-use Rattle.wh_flow.specs.Searches.{room, goes_back, IsOfLetters, IsPushed, IsLed, IsShut, IsSearched}
+use Rattle.wh_flow.specs.Searches.{residual, goes_back, IsOfLetters, IsPushed, IsLed, IsShut, IsSearched}
 use Rattle.wh_flow.proofs.Cuts.{closed-maximum, least-cut, is-full}
 use Rattle.wh_flow.proofs.Entries.{pushed-flow, pushed-value}
-use Rattle.wh_flow.proofs.Pushes.{no_room, room_lowers, past_no_room}
+use Rattle.wh_flow.proofs.Pushes.{no_residual, residual_lowers, past_no_residual}
 use Rattle.wh_flow.proofs.Searching.{small_set}
 
 pub none_seen : (t : ℕ) → in_set 0 t ≡ false
@@ -21,21 +21,21 @@ module _ (cap flow : List ℕ) (new from v t : ℕ) (q : IsSearched cap flow 0 n
   pub searched_apart : Separates v t (in_set new)
   searched_apart = record { holds = q.start; omits = q.omits (none_seen t) }
 
-  no-way : (x y : ℕ) → x < 52 → y < 52 → in_set new x ≡ true → in_set new y ≡ false → room cap flow from x y ≡ 0
-  no-way x y h i a b = elim (cases_lt 0 (room cap flow from x y)) [
+  no-way : (x y : ℕ) → x < 52 → y < 52 → in_set new x ≡ true → in_set new y ≡ false → residual cap flow from x y ≡ 0
+  no-way x y h i a b = elim (cases_lt 0 (residual cap flow from x y)) [
     | inl r ↦ absurd (true≢false (sym (q.shut x h (none_seen x) a y i r) ∙ b))
     | inr r ↦ omega (arith, r)
   ]
 
   pub searched_closed : IsClosedFrom from (cell cap) (cell flow) (in_set new)
   searched_closed = record {
-    full = λ x y h i a b l. (no_room cap flow from x y (no-way x y h i a b)).0 l;
-    empty = λ x y h i a b l. (no_room cap flow from x y (no-way x y h i a b)).1 l;
+    full = λ x y h i a b l. (no_residual cap flow from x y (no-way x y h i a b)).0 l;
+    empty = λ x y h i a b l. (no_residual cap flow from x y (no-way x y h i a b)).1 l;
   }
 
-room-zero : (cap flow : List ℕ) (x y : ℕ) → cell cap x y ≤ cell flow x y → cell flow y x ≡ 0 → room cap flow 0 x y ≡ 0
-room-zero cap flow x y h e = elim (cases_Bool (goes_back flow 0 x y)) [
-  | inl b ↦ (room_lowers cap flow 0 x y b).1 ∙ e
+residual-zero : (cap flow : List ℕ) (x y : ℕ) → cell cap x y ≤ cell flow x y → cell flow y x ≡ 0 → residual cap flow 0 x y ≡ 0
+residual-zero cap flow x y h e = elim (cases_Bool (goes_back flow 0 x y)) [
+  | inl b ↦ (residual_lowers cap flow 0 x y b).1 ∙ e
   | inr b ↦ (let e : cell cap x y - cell flow x y ≡ 0 = omega (arith, h) in
       subst (λ (k : Bool). cond k (cell flow y x) (cond (leb 0 (52 * x + y)) (cell cap x y - cell flow x y) 0) ≡ 0) (sym b) (either (leb 0 (52 * x + y)) (cell cap x y - cell flow x y) e))
 ]
@@ -48,7 +48,7 @@ room-zero cap flow x y h e = elim (cases_Bool (goes_back flow 0 x y)) [
 closed-shut : (cap flow : List ℕ) (set : ℕ → Bool) → IsClosed (cell cap) (cell flow) set → IsShut cap flow 0 set
 closed-shut cap flow set cl x y h i a r = elim (cases_Bool (set y)) [
   | inl b ↦ b
-  | inr b ↦ absurd (omega (arith, r, room-zero cap flow x y (cl.full x y h i a b) (cl.empty x y h i a b)))
+  | inr b ↦ absurd (omega (arith, r, residual-zero cap flow x y (cl.full x y h i a b) (cl.empty x y h i a b)))
 ]
 
 closed-whole : (c f : ℕ → ℕ → ℕ) (set : ℕ → Bool) → IsClosedFrom 0 c f set → IsClosed c f set
@@ -133,5 +133,5 @@ reached_letters letters cap flow new v few lv o w q past = small_set new letters
     shut : IsShut cap flow 0 (λ z. ltb z letters)
     shut x y h i a r = elim (cases_lt y letters) [
       | inl l ↦ first y l
-      | inr l ↦ absurd (omega (arith, r, past_no_room letters cap flow 0 x y o w h i (omega (arith, l))))
+      | inr l ↦ absurd (omega (arith, r, past_no_residual letters cap flow 0 x y o w h i (omega (arith, l))))
     ]

@@ -52,9 +52,6 @@ first_done c f h s t l fl w e fi = is-first c h s t l (still-flow c f h s t fl w
 pub nets_same : (f : ℕ → ℕ → ℕ) → HaveOneNetFlow f f
 nets_same f v l = refl
 
-pub nets_on : (f g h : ℕ → ℕ → ℕ) → HaveOneNetFlow f g → HaveOneNetFlow g h → HaveOneNetFlow f h
-nets_on f g h a b v l = omega (arith, a v l, b v l)
-
 pub agree_on : (k : ℕ) (f g h : ℕ → ℕ → ℕ) → AgreeBefore k f g → AgreeBefore k g h → AgreeBefore k f h
 agree_on k f g h a b x y i j l = a x y i j l ∙ b x y i j l
 

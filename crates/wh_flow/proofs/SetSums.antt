@@ -11,6 +11,10 @@ split set f = sum-same 52 f (λ y. where_in (set y) (f y) + where_in (not (set y
     halves true v = omega arith
     halves false v = omega arith
 
+pub where-zero : (b : Bool) → where_in b 0 ≡ 0
+where-zero true = refl
+where-zero false = refl
+
 pub where-add : (b : Bool) (u v : ℕ) → where_in b (u + v) ≡ where_in b u + where_in b v
 where-add true u v = refl
 where-add false u v = omega arith
@@ -89,8 +93,4 @@ module _ (f g : ℕ → ℕ → ℕ) (set : ℕ → Bool) where
         (subst (λ (b : Bool). where_in b (sum_below 52 (λ z. where_in (not (set z)) (f x z))) < where_in b (sum_below 52 (λ z. where_in (not (set z)) (g x z)))) (sym p) row)
 
 pub capacity-zero : (set : ℕ → Bool) → capacity_of_set (λ _ _. 0) set ≡ 0
-capacity-zero set = sum-same 52 (λ x. where_in (set x) (sum_below 52 (λ y. where_in (not (set y)) 0))) (λ _. 0) (λ x h. ap (where_in (set x)) (sum-same 52 (λ y. where_in (not (set y)) 0) (λ _. 0) (λ y i. none (not (set y))) ∙ sum-zero 52) ∙ none (set x)) ∙ sum-zero 52
-  where
-    none : (b : Bool) → where_in b 0 ≡ 0
-    none true = refl
-    none false = refl
+capacity-zero set = sum-same 52 (λ x. where_in (set x) (sum_below 52 (λ y. where_in (not (set y)) 0))) (λ _. 0) (λ x h. ap (where_in (set x)) (sum-same 52 (λ y. where_in (not (set y)) 0) (λ _. 0) (λ y i. where-zero (not (set y))) ∙ sum-zero 52) ∙ where-zero (set x)) ∙ sum-zero 52

@@ -1,31 +1,31 @@
--- What may still flow over capacities and a flow, by pairs from a place on.
+-- Residual networks: what may still flow over capacities and a flow, at pairs from a place on.
 use Rattle.std.specs.Prelude.{◌≡◌, ◌≢◌, ℕ, ◌<◌, ltb, ◌&&◌, List, length, get_or}
 use Rattle.wh_words.specs.LetterSets.{in_set}
 use Rattle.wh_words.specs.Flows.{IsWithin, place}
 use Rattle.wh_flow.specs.Nets.{cell}
-use Rattle.wh_flow.specs.Searches.{room}
+use Rattle.wh_flow.specs.Searches.{residual}
 
--- Capacities, a flow, and the place from which on pairs may be used.
-pub record Residual : Type 0 where
+-- Capacities, a flow, and the place from which on pairs have residual edges.
+pub record ResidualNet : Type 0 where
   pub cap : List ℕ
   pub flow : List ℕ
   pub from : ℕ
 
--- The set of the letters to which there is room from v.
-abbrev pub HasWays : ℕ → List ℕ → List ℕ → ℕ → ℕ → Type 0
-HasWays set cap flow from v = (y : ℕ) → y < 64 → in_set set y ≡ (ltb y 52 && ltb 0 (room cap flow from v y))
+-- The set of the letters to which residual edges lead from v.
+abbrev pub AreSuccessors : ℕ → List ℕ → List ℕ → ℕ → ℕ → Type 0
+AreSuccessors set cap flow from v = (y : ℕ) → y < 64 → in_set set y ≡ (ltb y 52 && ltb 0 (residual cap flow from v y))
 
--- The flow is within the capacities, and the mask of each letter is the set of the letters to which there is room from it.
-pub record IsResidual (cap flow : List ℕ) (from : ℕ) (masks : List ℕ) : Type 0 where
+-- The flow is within the capacities, and the mask of each letter is the set of the letters to which residual edges lead from it.
+pub record IsResidualNet (cap flow : List ℕ) (from : ℕ) (masks : List ℕ) : Type 0 where
   pub cap_size : length cap ≡ 2704
   pub flow_size : length flow ≡ 2704
   pub within : IsWithin (cell cap) (cell flow)
-  pub ways : (v : ℕ) → v < 52 → HasWays (get_or masks v 0) cap flow from v
+  pub successors : (v : ℕ) → v < 52 → AreSuccessors (get_or masks v 0) cap flow from v
 
 -- From the old flow to the new one, numbers changed between x and y at most.
-abbrev pub IsKeptBut : List ℕ → List ℕ → ℕ → ℕ → Type 0
-IsKeptBut old new x y = (u v : ℕ) → u < 52 → v < 52 → place u v ≢ place x y → place u v ≢ place y x → cell old u v ≡ cell new u v
+abbrev pub IsSameBut : List ℕ → List ℕ → ℕ → ℕ → Type 0
+IsSameBut old new x y = (u v : ℕ) → u < 52 → v < 52 → place u v ≢ place x y → place u v ≢ place y x → cell old u v ≡ cell new u v
 
--- For each letter the letters that edges join to it.
-abbrev pub AreNear : List ℕ → List ℕ → Type 0
-AreNear near cells = (v : ℕ) → v < 52 → (y : ℕ) → y < 64 → in_set (get_or near v 0) y ≡ (ltb y 52 && ltb 0 (cell cells v y))
+-- The mask of each letter is the set of its neighbours: the letters that edges join to it.
+abbrev pub AreNeighbours : List ℕ → List ℕ → Type 0
+AreNeighbours masks cells = (v : ℕ) → v < 52 → (y : ℕ) → y < 64 → in_set (get_or masks v 0) y ≡ (ltb y 52 && ltb 0 (cell cells v y))

@@ -13,9 +13,9 @@ IsOfLetters letters cap = (x y : ℕ) → x < 52 → y < 52 → (letters ≤ x) 
 abbrev pub goes_back : List ℕ → ℕ → ℕ → ℕ → Bool
 goes_back flow from x y = leb from (52 * y + x) && ltb 0 (cell flow y x)
 
--- How much more can go from x to y, by less flow back or else by more flow there.
-abbrev pub room : List ℕ → List ℕ → ℕ → ℕ → ℕ → ℕ
-room cap flow from x y = cond (goes_back flow from x y) (cell flow y x) (cond (leb from (52 * x + y)) (cell cap x y - cell flow x y) 0)
+-- The residual capacity from x to y at pairs from a place on: how much more can go, by less flow back or else by more flow there.
+abbrev pub residual : List ℕ → List ℕ → ℕ → ℕ → ℕ → ℕ
+residual cap flow from x y = cond (goes_back flow from x y) (cell flow y x) (cond (leb from (52 * x + y)) (cell cap x y - cell flow x y) 0)
 
 -- How many letters weren't seen.
 abbrev pub unseen : ℕ → ℕ
@@ -47,9 +47,9 @@ pub record IsLed (cap flow : List ℕ) (seen v x : ℕ) : Type 0 where
   pub size : length new ≡ 2704
   pub pushed : IsPushed cap flow new seen 0 v x 1
 
--- No room leaves the set.
+-- No residual edge leaves the set.
 abbrev pub IsShut : List ℕ → List ℕ → ℕ → (ℕ → Bool) → Type 0
-IsShut cap flow from set = (x y : ℕ) → x < 52 → y < 52 → set x ≡ true → 0 < room cap flow from x y → set y ≡ true
+IsShut cap flow from set = (x y : ℕ) → x < 52 → y < 52 → set x ≡ true → 0 < residual cap flow from x y → set y ≡ true
 
 -- A letter of a set that wasn't seen.
 abbrev pub IsFresh : ℕ → ℕ → ℕ → Type 0
@@ -63,12 +63,12 @@ IsAllSeen set seen = (y : ℕ) → y < 64 → in_set set y ≡ true → in_set s
 pub record IsSearched (cap flow : List ℕ) (old new from v t : ℕ) : Type 0 where
   pub start : in_set new v ≡ true
   pub omits : in_set old t ≡ false → in_set new t ≡ false
-  pub shut : (x : ℕ) → x < 52 → in_set old x ≡ false → in_set new x ≡ true → (y : ℕ) → y < 52 → 0 < room cap flow from x y → in_set new y ≡ true
+  pub shut : (x : ℕ) → x < 52 → in_set old x ≡ false → in_set new x ≡ true → (y : ℕ) → y < 52 → 0 < residual cap flow from x y → in_set new y ≡ true
   pub least : (set : ℕ → Bool) → set v ≡ true → IsShut cap flow from set → (x : ℕ) → x < 52 → in_set old x ≡ false → in_set new x ≡ true → set x ≡ true
 
 -- The same before the edges from v are all tried.
 pub record IsSearching (cap flow : List ℕ) (old now from v t : ℕ) : Type 0 where
   pub start : in_set now v ≡ true
   pub omits : in_set old t ≡ false → in_set now t ≡ false
-  pub shut : (x : ℕ) → x < 52 → x ≢ v → in_set old x ≡ false → in_set now x ≡ true → (z : ℕ) → z < 52 → 0 < room cap flow from x z → in_set now z ≡ true
+  pub shut : (x : ℕ) → x < 52 → x ≢ v → in_set old x ≡ false → in_set now x ≡ true → (z : ℕ) → z < 52 → 0 < residual cap flow from x z → in_set now z ≡ true
   pub least : (set : ℕ → Bool) → set v ≡ true → IsShut cap flow from set → (x : ℕ) → x < 52 → in_set old x ≡ false → in_set now x ≡ true → set x ≡ true

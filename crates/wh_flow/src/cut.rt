@@ -8,7 +8,7 @@ ghost use Rattle.wh_flow.specs.Searches.{IsOfLetters, Grew, IsSearched, IsLed};
 
 use crate::flow::Flow;
 use crate::net::Net;
-use crate::residual::ways_of;
+use crate::residual::successors_of;
 use crate::search::first_fresh;
 use wh_words::{Letter, LetterSet};
 
@@ -67,9 +67,9 @@ fn visit(cap: &[u32], flow: &[u32], seen: &mut LetterSet, v: usize)
     ensures led { (x : ℕ) → x < 52 → in_set seen.old x ≡ false → in_set seen.new x ≡ true → IsLed cap.now flow.now seen.old v x }
     ensures past { (x : ℕ) → 52 ≤ x → in_set seen.new x ≡ in_set seen.old x }
 {
-    let ways = ways_of(cap, flow, v);
+    let successors = successors_of(cap, flow, v);
     *seen = seen.with(Letter::of_index(v as u8));
-    while let Some(y) = first_fresh(ways, *seen) {
+    while let Some(y) = first_fresh(successors, *seen) {
         visit(cap, flow, seen, y);
     }
 }

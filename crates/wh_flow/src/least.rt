@@ -6,7 +6,7 @@ ghost use Rattle.wh_flow.specs.Rerouting.{HaveOneNetFlow, IsLeastAt, IsFirstUpTo
 
 use crate::flow::Flow;
 use crate::net::Net;
-use crate::residual::Residual;
+use crate::residual::ResidualNet;
 use crate::search::Search;
 use wh_words::Letter;
 
@@ -21,13 +21,13 @@ pub fn least_flow(net: &Net, flow: &Flow, s: Letter, t: Letter) -> Flow
     // Both indices are below 52, which the proof takes from these calls.
     s.index();
     t.index();
-    let mut residual = Residual::of(net, flow);
+    let mut residual = ResidualNet::of(net, flow);
     lower_all(&mut residual, net.letters());
     residual.into_flow()
 }
 
 /// Lowers the numbers of the first rows in turn.
-fn lower_all(residual: &mut Residual, letters: usize)
+fn lower_all(residual: &mut ResidualNet, letters: usize)
     requires letters { letters ≤ 52 }
     requires from { residual.old.from ≡ 0 }
     ensures cap { residual.new.cap ≡ residual.old.cap }
@@ -40,7 +40,7 @@ fn lower_all(residual: &mut Residual, letters: usize)
 }
 
 /// Lowers the numbers of a row in turn.
-fn lower_row(residual: &mut Residual, x: usize)
+fn lower_row(residual: &mut ResidualNet, x: usize)
     requires x_within { x < 52 }
     requires from { residual.old.from ≡ 52 * x }
     requires first { IsFirstUpTo (52 * x) (cell residual.old.cap) (cell residual.old.flow) }
@@ -50,13 +50,13 @@ fn lower_row(residual: &mut Residual, x: usize)
     ensures first { IsFirstUpTo (52 * x + 52) (cell residual.old.cap) (cell residual.new.flow) }
 {
     for y in 0..52 {
-        residual.pass(x, y);
+        residual.leave_out(x, y);
         lower(residual, x, y);
     }
 }
 
 /// Lowers the number at `x` and `y` as far as later pairs can make up for it.
-fn lower(residual: &mut Residual, x: usize, y: usize)
+fn lower(residual: &mut ResidualNet, x: usize, y: usize)
     requires x_within { x < 52 }
     requires y_within { y < 52 }
     requires from { residual.old.from ≡ 52 * x + y + 1 }
@@ -70,7 +70,7 @@ fn lower(residual: &mut Residual, x: usize, y: usize)
 }
 
 /// Takes some of the number at `x` and `y` round by later pairs, or answers false where it is the least.
-fn reroute(residual: &mut Residual, x: usize, y: usize) -> bool
+fn reroute(residual: &mut ResidualNet, x: usize, y: usize) -> bool
     requires x_within { x < 52 }
     requires y_within { y < 52 }
     requires from { residual.old.from ≡ 52 * x + y + 1 }

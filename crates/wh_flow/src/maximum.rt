@@ -5,7 +5,7 @@ ghost use Rattle.wh_flow.specs.Nets.{cell};
 
 use crate::flow::Flow;
 use crate::net::Net;
-use crate::residual::Residual;
+use crate::residual::ResidualNet;
 use crate::search::Search;
 use std::marker::Brand;
 use std::sync::ledger::{Blank, Ledger};
@@ -30,7 +30,7 @@ pub fn augment<L: Ledger>(
     ensures done { result ≡ false → (flow.new ≡ flow.old) × FillsLeastCut (cell net.now.cells) (cell flow.old) s t }
     ensures cost { steps.new ≡ steps.old + cond result 1 0 }
 {
-    let mut residual = Residual::of(net, flow);
+    let mut residual = ResidualNet::of(net, flow);
     let raised = raise(&mut residual, &mut Search::new(t), s, steps);
     if raised {
         *flow = residual.into_flow();
@@ -51,7 +51,7 @@ pub fn max_flow<L: Ledger>(net: &Net, s: Letter, t: Letter, steps: &mut Steps<L>
 {
     // The index is below 52, which the proof takes from this call.
     s.index();
-    let mut residual = Residual::at_rest(net);
+    let mut residual = ResidualNet::without_flow(net);
     let mut search = Search::new(t);
     'raise: while raise(&mut residual, &mut search, s, steps) {}
     residual.into_flow()
@@ -85,7 +85,7 @@ fn max_flow_over<L: Ledger>(net: &Net, s: Letter, t: Letter, blank: Blank) -> Fl
 
 /// Raises the value between a letter and the sink of a search at one step, or answers false where it is the greatest.
 fn raise<L: Ledger>(
-    residual: &mut Residual,
+    residual: &mut ResidualNet,
     search: &mut Search,
     s: Letter,
     steps: &mut Steps<L>,

@@ -1,34 +1,35 @@
 //! Networks: how many edges join each two letters.
 ghost use Rattle.std.specs.Prelude.{◌≡◌, ◌≢◌, ℕ, ◌+◌, ◌*◌, ◌<◌, ◌≤◌, ◌⊎◌, true, cond, length, get_or, replicate};
+ghost use Rattle.wh_words.specs.Limits.{most_letters};
 ghost use Rattle.wh_words.specs.LetterSets.{in_set};
 ghost use Rattle.wh_words.specs.Edges.{joins};
 ghost use Rattle.wh_flow.specs.Nets.{cell, edge_count, IsNet};
 ghost use Rattle.wh_flow.specs.Searches.{IsOfLetters};
-ghost use Rattle.wh_flow.specs.Residuals.{AreNear};
+ghost use Rattle.wh_flow.specs.Residuals.{AreNeighbours};
 
 use std::marker::Model;
 use wh_words::{Letter, LetterSet, Rank};
 
 /// A network on the letters of a rank: the number of edges between each two letters. Edges have no direction, join two
 /// different letters, and there are at most 4,096 of them. Contracts see the rank and the table of these numbers, row by
-/// row. The letters that edges join to each letter are kept as a mask too.
+/// row. The neighbours of each letter are kept as a mask too.
 #[derive(Drop, Clone)]
 pub struct Net {
     rank: Rank,
     cells: [u32; 2704],
-    near: [u64; 52],
+    neighbours: [u64; 52],
 }
 
 impl Model for Net {
     ghost use Rattle.wh_flow.specs.Nets.{IsNet};
     ghost use Rattle.wh_flow.specs.Nets as spec;
-    ghost use Rattle.wh_flow.specs.Residuals.{AreNear};
+    ghost use Rattle.wh_flow.specs.Residuals.{AreNeighbours};
 
     ghost Value = { spec.Net };
 
     ghost view = { λ n. record { rank = n.rank; cells = n.cells } };
 
-    ghost invariant = { λ n. IsNet (record { rank = n.rank; cells = n.cells }) × AreNear n.near n.cells };
+    ghost invariant = { λ n. IsNet (record { rank = n.rank; cells = n.cells }) × AreNeighbours n.neighbours n.cells };
 }
 
 impl Net {
@@ -42,7 +43,7 @@ impl Net {
         Net {
             rank,
             cells: [0; 2704],
-            near: [0; 52],
+            neighbours: [0; 52],
         }
     }
 
@@ -66,7 +67,7 @@ impl Net {
         requires apart { x ≢ y }
         requires x_of_rank { x < 2 * self.old.rank }
         requires y_of_rank { y < 2 * self.old.rank }
-        requires few { edge_count self.old.cells < 4096 }
+        requires few { edge_count self.old.cells < most_letters }
         ensures rank { self.new.rank ≡ self.old.rank }
         ensures edge { (u v : ℕ) → u < 52 → v < 52 → cell self.new.cells u v ≡ cell self.old.cells u v + cond (joins u v (x, y)) 1 0 }
         ensures count { edge_count self.new.cells ≡ edge_count self.old.cells + 1 }
@@ -74,8 +75,8 @@ impl Net {
         let x = x.index() as usize;
         let y = y.index() as usize;
         write_edge(&mut self.cells, x, y);
-        join(&mut self.near, x, y);
-        join(&mut self.near, y, x);
+        add_neighbour(&mut self.neighbours, x, y);
+        add_neighbour(&mut self.neighbours, y, x);
     }
 
     /// The capacities, row by row.
@@ -87,11 +88,11 @@ impl Net {
         &self.cells
     }
 
-    /// For each letter the letters that edges join to it, as a mask.
-    pub(crate) fn near(&self) -> [u64; 52]
-        ensures { AreNear result self.now.cells }
+    /// The neighbours of each letter, as a mask.
+    pub(crate) fn neighbours(&self) -> [u64; 52]
+        ensures { AreNeighbours result self.now.cells }
     {
-        self.near
+        self.neighbours
     }
 
     /// How many letters the rank has.
@@ -110,8 +111,8 @@ fn write_edge(cells: &mut [u32], x: usize, y: usize)
     requires y_within { y < 52 }
     requires apart { x ≢ y }
     requires size { length cells.old ≡ 2704 }
-    requires low { cell cells.old x y ≤ 4096 }
-    requires low_back { cell cells.old y x ≤ 4096 }
+    requires low { cell cells.old x y ≤ most_letters }
+    requires low_back { cell cells.old y x ≤ most_letters }
     ensures size { length cells.new ≡ 2704 }
     ensures edge { (u v : ℕ) → u < 52 → v < 52 → cell cells.new u v ≡ cell cells.old u v + cond (joins u v (x, y)) 1 0 }
 {
@@ -119,16 +120,16 @@ fn write_edge(cells: &mut [u32], x: usize, y: usize)
     cells[52 * y + x] += 1;
 }
 
-/// Adds `y` to the mask of `x`.
-fn join(near: &mut [u64], x: usize, y: usize)
-    requires size { length near.old ≡ 52 }
+/// Adds `y` to the neighbours of `x`.
+fn add_neighbour(neighbours: &mut [u64], x: usize, y: usize)
+    requires size { length neighbours.old ≡ 52 }
     requires x_within { x < 52 }
     requires y_within { y < 52 }
-    ensures size { length near.new ≡ 52 }
-    ensures here { in_set (get_or near.new x 0) y ≡ true }
-    ensures others { (v z : ℕ) → v < 52 → z < 64 → (v ≢ x) ⊎ (z ≢ y) → in_set (get_or near.new v 0) z ≡ in_set (get_or near.old v 0) z }
+    ensures size { length neighbours.new ≡ 52 }
+    ensures here { in_set (get_or neighbours.new x 0) y ≡ true }
+    ensures others { (v z : ℕ) → v < 52 → z < 64 → (v ≢ x) ⊎ (z ≢ y) → in_set (get_or neighbours.new v 0) z ≡ in_set (get_or neighbours.old v 0) z }
 {
-    near[x] = LetterSet::of_bits(near[x])
+    neighbours[x] = LetterSet::of_bits(neighbours[x])
         .with(Letter::of_index(y as u8))
         .bits();
 }

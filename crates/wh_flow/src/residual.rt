@@ -1,63 +1,63 @@
-//! What may still flow between letters.
+//! The residual network of a flow: what may still flow between letters.
 ghost use Rattle.std.specs.Prelude.{◌≡◌, ◌≢◌, ℕ, ◌+◌, ◌-◌, ◌*◌, ◌<◌, ◌≤◌, ◌⊎◌, ltb, length, get_or, slice_set, replicate};
 ghost use Rattle.wh_words.specs.LetterSets.{in_set};
 ghost use Rattle.wh_words.specs.Flows.{IsWithin, place};
 ghost use Rattle.wh_flow.specs.Nets.{cell};
-ghost use Rattle.wh_flow.specs.Searches.{room, goes_back, IsShifted};
-ghost use Rattle.wh_flow.specs.Residuals.{HasWays, IsKeptBut};
+ghost use Rattle.wh_flow.specs.Searches.{residual, goes_back, IsShifted};
+ghost use Rattle.wh_flow.specs.Residuals.{AreSuccessors, IsSameBut};
 
 use crate::flow::Flow;
 use crate::net::Net;
 use std::marker::Model;
 use wh_words::{Letter, LetterSet};
 
-/// Capacities and a flow within them, and the pairs along which more may flow: those from a place on. Contracts see
-/// these. The letters to which there is room are kept for each letter as a mask, which the invariant says.
+/// The residual network of a flow within capacities, at the pairs from a place on. Contracts see the capacities, the
+/// flow and the place. The letters to which residual edges lead are kept for each letter as a mask.
 #[derive(Drop)]
-pub(crate) struct Residual<'a> {
+pub(crate) struct ResidualNet<'a> {
     cap: &'a [u32],
     flow: [u32; 2704],
     from: usize,
-    ways: [u64; 52],
+    successors: [u64; 52],
 }
 
-impl<'a> Model for Residual<'a> {
-    ghost use Rattle.wh_flow.specs.Residuals.{IsResidual};
+impl<'a> Model for ResidualNet<'a> {
+    ghost use Rattle.wh_flow.specs.Residuals.{IsResidualNet};
     ghost use Rattle.wh_flow.specs.Residuals as spec;
 
-    ghost Value = { spec.Residual };
+    ghost Value = { spec.ResidualNet };
 
     ghost view = { λ r. record { cap = r.cap.now; flow = r.flow; from = r.from } };
 
-    ghost invariant = { λ r. IsResidual r.cap.now r.flow r.from r.ways };
+    ghost invariant = { λ r. IsResidualNet r.cap.now r.flow r.from r.successors };
 }
 
-impl<'a> Residual<'a> {
-    /// What may flow on a network where nothing flows.
-    pub fn at_rest(net: &'a Net) -> Residual<'a>
+impl<'a> ResidualNet<'a> {
+    /// The residual network where nothing flows.
+    pub fn without_flow(net: &'a Net) -> ResidualNet<'a>
         ensures { result ≡ record { cap = net.now.cells; flow = replicate 2704 0; from = 0 } }
     {
-        Residual {
+        ResidualNet {
             cap: net.cells(),
             flow: [0; 2704],
             from: 0,
-            ways: net.near(),
+            successors: net.neighbours(),
         }
     }
 
-    /// What may still flow beside a flow, along all pairs.
-    pub fn of(net: &'a Net, flow: &Flow) -> Residual<'a>
+    /// The residual network of a flow, at all pairs.
+    pub fn of(net: &'a Net, flow: &Flow) -> ResidualNet<'a>
         requires within { IsWithin (cell net.now.cells) (cell flow.now) }
         ensures { result ≡ record { cap = net.now.cells; flow = flow.now; from = 0 } }
     {
         let cap = net.cells();
-        let mut ways = [0; 52];
-        write_ways(cap, &flow.cells, &mut ways);
-        Residual {
+        let mut successors = [0; 52];
+        write_successors(cap, &flow.cells, &mut successors);
+        ResidualNet {
             cap,
             flow: flow.cells,
             from: 0,
-            ways,
+            successors,
         }
     }
 
@@ -79,22 +79,22 @@ impl<'a> Residual<'a> {
         self.flow[52 * x + y]
     }
 
-    /// The letters to which there is room from `v`.
-    pub fn ways(&self, v: usize) -> LetterSet
+    /// The letters to which residual edges lead from `v`.
+    pub fn successors(&self, v: usize) -> LetterSet
         requires { v < 52 }
-        ensures ways { HasWays result self.now.cap self.now.flow self.now.from v }
+        ensures successors { AreSuccessors result self.now.cap self.now.flow self.now.from v }
         ensures within { IsWithin (cell self.now.cap) (cell self.now.flow) }
     {
-        LetterSet::of_bits(self.ways[v])
+        LetterSet::of_bits(self.successors[v])
     }
 
-    /// How much more can go from `x` to `y`.
-    pub fn room(&self, x: usize, y: usize) -> u32
+    /// The residual capacity from `x` to `y`: how much more can go.
+    pub fn capacity(&self, x: usize, y: usize) -> u32
         requires x_within { x < 52 }
         requires y_within { y < 52 }
-        ensures { result ≡ room self.now.cap self.now.flow self.now.from x y }
+        ensures { result ≡ residual self.now.cap self.now.flow self.now.from x y }
     {
-        room_of(self.cap, &self.flow, self.from, x, y)
+        residual_capacity(self.cap, &self.flow, self.from, x, y)
     }
 
     /// Takes `d` from `x` to `y`: less flows back, or more flows there.
@@ -102,26 +102,26 @@ impl<'a> Residual<'a> {
         requires x_within { x < 52 }
         requires y_within { y < 52 }
         requires some { 0 < d }
-        requires fits { d ≤ room self.old.cap self.old.flow self.old.from x y }
+        requires fits { d ≤ residual self.old.cap self.old.flow self.old.from x y }
         ensures cap { self.new.cap ≡ self.old.cap }
         ensures from { self.new.from ≡ self.old.from }
         ensures shifted { IsShifted self.old.cap self.old.flow self.new.flow self.old.from x y d }
     {
         shift(self.cap, &mut self.flow, self.from, x, y, d);
-        note(self.cap, &self.flow, self.from, &mut self.ways, x, y);
-        note(self.cap, &self.flow, self.from, &mut self.ways, y, x);
+        note_edge(self.cap, &self.flow, self.from, &mut self.successors, x, y);
+        note_edge(self.cap, &self.flow, self.from, &mut self.successors, y, x);
     }
 
-    /// Leaves out the first pair.
-    pub fn pass(&mut self, x: usize, y: usize)
+    /// Leaves out the first of the pairs.
+    pub fn leave_out(&mut self, x: usize, y: usize)
         requires x_within { x < 52 }
         requires y_within { y < 52 }
         requires first { self.old.from ≡ 52 * x + y }
         ensures { self.new ≡ record { cap = self.old.cap; flow = self.old.flow; from = self.old.from + 1 } }
     {
         self.from += 1;
-        note(self.cap, &self.flow, self.from, &mut self.ways, x, y);
-        note(self.cap, &self.flow, self.from, &mut self.ways, y, x);
+        note_edge(self.cap, &self.flow, self.from, &mut self.successors, x, y);
+        note_edge(self.cap, &self.flow, self.from, &mut self.successors, y, x);
     }
 
     /// Lets `d` less flow from `x` to `y`, a pair that was left out.
@@ -139,67 +139,67 @@ impl<'a> Residual<'a> {
     }
 }
 
-/// Writes for each letter the letters to which there is room.
-fn write_ways(cap: &[u32], flow: &[u32], ways: &mut [u64])
+/// Writes for each letter the letters to which residual edges lead.
+fn write_successors(cap: &[u32], flow: &[u32], successors: &mut [u64])
     requires cap { length cap.now ≡ 2704 }
     requires flow { length flow.now ≡ 2704 }
-    requires size { length ways.old ≡ 52 }
+    requires size { length successors.old ≡ 52 }
     requires within { IsWithin (cell cap.now) (cell flow.now) }
-    ensures size { length ways.new ≡ 52 }
-    ensures ways { (v : ℕ) → v < 52 → HasWays (get_or ways.new v 0) cap.now flow.now 0 v }
+    ensures size { length successors.new ≡ 52 }
+    ensures successors { (v : ℕ) → v < 52 → AreSuccessors (get_or successors.new v 0) cap.now flow.now 0 v }
 {
     for v in 0..52 {
-        ways[v] = ways_of(cap, flow, v).bits();
+        successors[v] = successors_of(cap, flow, v).bits();
     }
 }
 
-/// The letters to which there is room from `v`, along all pairs.
-pub(crate) fn ways_of(cap: &[u32], flow: &[u32], v: usize) -> LetterSet
+/// The letters to which residual edges lead from `v`, at all pairs.
+pub(crate) fn successors_of(cap: &[u32], flow: &[u32], v: usize) -> LetterSet
     requires cap { length cap.now ≡ 2704 }
     requires flow { length flow.now ≡ 2704 }
     requires v_within { v < 52 }
     requires within { IsWithin (cell cap.now) (cell flow.now) }
-    ensures { HasWays result cap.now flow.now 0 v }
+    ensures { AreSuccessors result cap.now flow.now 0 v }
 {
-    let mut ways = LetterSet::empty();
+    let mut successors = LetterSet::empty();
     for y in 0..52 {
-        if room_of(cap, flow, 0, v, y) > 0 {
-            ways = ways.with(Letter::of_index(y as u8));
+        if residual_capacity(cap, flow, 0, v, y) > 0 {
+            successors = successors.with(Letter::of_index(y as u8));
         }
     }
-    ways
+    successors
 }
 
-/// Notes in the mask of `x` whether there is room to `y`.
-fn note(cap: &[u32], flow: &[u32], from: usize, ways: &mut [u64], x: usize, y: usize)
+/// Notes in the mask of `x` whether a residual edge leads to `y`.
+fn note_edge(cap: &[u32], flow: &[u32], from: usize, successors: &mut [u64], x: usize, y: usize)
     requires cap { length cap.now ≡ 2704 }
     requires flow { length flow.now ≡ 2704 }
-    requires size { length ways.old ≡ 52 }
+    requires size { length successors.old ≡ 52 }
     requires x_within { x < 52 }
     requires y_within { y < 52 }
     requires within { IsWithin (cell cap.now) (cell flow.now) }
-    ensures size { length ways.new ≡ 52 }
-    ensures here { in_set (get_or ways.new x 0) y ≡ ltb 0 (room cap.now flow.now from x y) }
-    ensures others { (v z : ℕ) → v < 52 → z < 64 → (v ≢ x) ⊎ (z ≢ y) → in_set (get_or ways.new v 0) z ≡ in_set (get_or ways.old v 0) z }
+    ensures size { length successors.new ≡ 52 }
+    ensures here { in_set (get_or successors.new x 0) y ≡ ltb 0 (residual cap.now flow.now from x y) }
+    ensures others { (v z : ℕ) → v < 52 → z < 64 → (v ≢ x) ⊎ (z ≢ y) → in_set (get_or successors.new v 0) z ≡ in_set (get_or successors.old v 0) z }
 {
-    let set = LetterSet::of_bits(ways[x]);
+    let set = LetterSet::of_bits(successors[x]);
     let letter = Letter::of_index(y as u8);
-    let noted = if room_of(cap, flow, from, x, y) > 0 {
+    let noted = if residual_capacity(cap, flow, from, x, y) > 0 {
         set.with(letter)
     } else {
         set.without(letter)
     };
-    ways[x] = noted.bits();
+    successors[x] = noted.bits();
 }
 
-/// How much more can go from `x` to `y`, along pairs from a place on.
-fn room_of(cap: &[u32], flow: &[u32], from: usize, x: usize, y: usize) -> u32
+/// The residual capacity from `x` to `y`, at the pairs from a place on: how much more can go.
+fn residual_capacity(cap: &[u32], flow: &[u32], from: usize, x: usize, y: usize) -> u32
     requires cap { length cap.now ≡ 2704 }
     requires flow { length flow.now ≡ 2704 }
     requires x_within { x < 52 }
     requires y_within { y < 52 }
     requires within { IsWithin (cell cap.now) (cell flow.now) }
-    ensures { result ≡ room cap.now flow.now from x y }
+    ensures { result ≡ residual cap.now flow.now from x y }
 {
     if is_back(flow, from, x, y) {
         flow[52 * y + x]
@@ -217,11 +217,11 @@ fn shift(cap: &[u32], flow: &mut [u32], from: usize, x: usize, y: usize, d: u32)
     requires x_within { x < 52 }
     requires y_within { y < 52 }
     requires some { 0 < d }
-    requires fits { d ≤ room cap.now flow.old from x y }
+    requires fits { d ≤ residual cap.now flow.old from x y }
     requires within { IsWithin (cell cap.now) (cell flow.old) }
     ensures size { length flow.new ≡ 2704 }
     ensures shifted { IsShifted cap.now flow.old flow.new from x y d }
-    ensures kept { IsKeptBut flow.old flow.new x y }
+    ensures kept { IsSameBut flow.old flow.new x y }
 {
     if is_back(flow, from, x, y) {
         flow[52 * y + x] -= d;

@@ -4,15 +4,16 @@ ghost use Rattle.std.specs.Int.{bit_at};
 ghost use Rattle.wh_words.specs.LetterSets.{in_set};
 ghost use Rattle.wh_flow.specs.Searches.{Grew, IsFresh, IsAllSeen, IsPushed, IsSearched};
 
-use crate::residual::Residual;
+use crate::residual::ResidualNet;
 use wh_words::{Letter, LetterSet};
 
-/// A search for a sink: the letters that it saw, and those from which the sink may be one step away.
+/// A search for a sink: the letters that it saw, and those from which the sink may be one edge away. The latter are a
+/// hint, which no clause speaks of: any letter that wasn't seen may come first.
 #[derive(Clone, Copy)]
 pub(crate) struct Search {
     pub sink: Letter,
     pub seen: LetterSet,
-    near: LetterSet,
+    near_sink: LetterSet,
 }
 
 impl Search {
@@ -24,13 +25,13 @@ impl Search {
         Search {
             sink,
             seen: LetterSet::empty(),
-            near: LetterSet::of_bits(u64::MAX),
+            near_sink: LetterSet::of_bits(u64::MAX),
         }
     }
 
     /// Takes at most `limit` from `v` to the sink, by letters that weren't seen, and answers how much. Zero says that no
     /// way leads there; then the set has what was reached.
-    pub fn push(&mut self, residual: &mut Residual, v: usize, limit: u32) -> u32
+    pub fn push(&mut self, residual: &mut ResidualNet, v: usize, limit: u32) -> u32
         requires v_within { v < 52 }
         requires fresh { in_set self.old.seen v ≡ false }
         requires some { 0 < limit }
@@ -43,13 +44,13 @@ impl Search {
         ensures same { result ≡ 0 → residual.new ≡ residual.old }
         ensures searched { result ≡ 0 → IsSearched residual.old.cap residual.old.flow self.old.seen self.new.seen residual.old.from v self.old.sink }
     {
-        let ways = residual.ways(v);
+        let successors = residual.successors(v);
         if v == self.sink.index() as usize {
             return limit;
         }
-        self.enter(v, ways);
-        while let Some(y) = self.next(ways) {
-            let d = self.push(residual, y, lesser(limit, residual.room(v, y)));
+        self.enter(v, successors);
+        while let Some(y) = self.next(successors) {
+            let d = self.push(residual, y, lesser(limit, residual.capacity(v, y)));
             if d > 0 {
                 residual.shift(v, y, d);
                 return d;
@@ -58,8 +59,8 @@ impl Search {
         0
     }
 
-    /// Adds a letter to those that were seen, and notes whether the sink is one step away.
-    fn enter(&mut self, v: usize, ways: LetterSet)
+    /// Adds a letter to those that were seen, and notes whether the sink is one edge away.
+    fn enter(&mut self, v: usize, successors: LetterSet)
         requires { v < 52 }
         ensures sink { self.new.sink ≡ self.old.sink }
         ensures same { bit_at self.new.seen v ≡ 1 }
@@ -67,19 +68,19 @@ impl Search {
     {
         let letter = Letter::of_index(v as u8);
         self.seen = self.seen.with(letter);
-        if !ways.contains(self.sink) {
-            self.near = self.near.without(letter);
+        if !successors.contains(self.sink) {
+            self.near_sink = self.near_sink.without(letter);
         }
     }
 
-    /// The letter that is tried next, of those to which there is room: the sink, or else one from which it may be one step
-    /// away, or else any that wasn't seen.
-    fn next(&self, ways: LetterSet) -> Option<usize>
-        ensures { MatchOption result (IsAllSeen ways self.now.seen) (IsFresh ways self.now.seen) }
+    /// The letter that is tried next, of those to which residual edges lead: the sink, or else one from which it may be
+    /// one edge away, or else any that wasn't seen.
+    fn next(&self, successors: LetterSet) -> Option<usize>
+        ensures { MatchOption result (IsAllSeen successors self.now.seen) (IsFresh successors self.now.seen) }
     {
-        let fresh = ways.bits() & !self.seen.bits();
-        let near = prefer(fresh, self.near.bits());
-        first(prefer(near, 1 << self.sink.index()))
+        let fresh = successors.bits() & !self.seen.bits();
+        let near = prefer(fresh, self.near_sink.bits());
+        lowest_bit(prefer(near, 1 << self.sink.index()))
     }
 }
 
@@ -105,11 +106,11 @@ fn lesser(a: u32, b: u32) -> u32
 pub(crate) fn first_fresh(set: LetterSet, seen: LetterSet) -> Option<usize>
     ensures { MatchOption result (IsAllSeen set seen) (IsFresh set seen) }
 {
-    first(set.bits() & !seen.bits())
+    lowest_bit(set.bits() & !seen.bits())
 }
 
 /// The place of the lowest bit.
-fn first(set: u64) -> Option<usize>
+fn lowest_bit(set: u64) -> Option<usize>
     ensures { MatchOption result (set ≡ 0) (λ y. (y < 64) × (in_set set y ≡ true)) }
 {
     if set == 0 {

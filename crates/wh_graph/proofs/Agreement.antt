@@ -11,10 +11,10 @@ use Rattle.wh_words.specs.Action.{act}
 use Rattle.wh_words.specs.Edges.{cap, deg}
 use Rattle.wh_words.specs.Traces.{IsFlatAt, IsShortestCut, IsStep, IsTrace}
 use Rattle.wh_words.specs.Traces.IsTrace.{done, step}
-use Rattle.wh_words.specs.CapacityTraces.{IsSubset, IsTight, IsTightAt, IsLeastCapacityCut, IsCapacityStep, IsCapacityTrace}
-use Rattle.wh_words.specs.CapacityTraces.IsCapacityTrace.{done as tight_end, step as cut_step}
+use Rattle.wh_words.specs.CapacityTraces.{IsSubset, IsFlatByCapacities, IsFlatByCapacitiesAt, IsLeastCapacityCut, IsCapacityStep, IsCapacityTrace}
+use Rattle.wh_words.specs.CapacityTraces.IsCapacityTrace.{done as flat_end, step as cut_step}
 use Rattle.wh_words.proofs.ImageLetters.{act_tuple}
-use Rattle.wh_graph.specs.Laws.{FlatIsTight, StepsAgree, TracesAgree}
+use Rattle.wh_graph.specs.Laws.{FlatIsByCapacities, StepsAgree, TracesAgree}
 use Rattle.wh_graph.proofs.EdgeCounts.{cap_same, complement_cap, submodular}
 use Rattle.wh_graph.proofs.Degrees.{inverse_degree}
 use Rattle.wh_graph.proofs.Lengths.{length_law}
@@ -23,26 +23,26 @@ use Rattle.wh_graph.proofs.SetNumbers.{mask, mask_lt, mask_has, mask_cut, holds,
 
 module _ (t : TupleData) (is : IsTuple t) where
   -- ---- one multiplier
-  flat_tight : (a : ℕ) → IsFlatAt t a → IsTightAt t a
-  flat_tight a flat set valid = omega (arith, flat set valid, length_law t a set is valid)
+  at_capacities : (a : ℕ) → IsFlatAt t a → IsFlatByCapacitiesAt t a
+  at_capacities a flat set valid = omega (arith, flat set valid, length_law t a set is valid)
 
-  tight_flat : (a : ℕ) → IsTightAt t a → IsFlatAt t a
-  tight_flat a tight set valid = omega (arith, tight set valid, length_law t a set is valid)
+  at_lengths : (a : ℕ) → IsFlatByCapacitiesAt t a → IsFlatAt t a
+  at_lengths a flat set valid = omega (arith, flat set valid, length_law t a set is valid)
 
   -- The number of a set has its capacity.
   pub mask_cap : (has : ℕ → Bool) → cap (in_set (mask (2 * t.rank) has)) t ≡ cap has t
   mask_cap has = cap_same t (in_set (mask (2 * t.rank) has)) has is (mask_has (2 * t.rank) has)
 
   -- The complements of the cuts of a letter are those of its inverse.
-  tight_inverse : (a : ℕ) → IsTightAt t a → IsTightAt t (inverse_letter a)
-  tight_inverse a tight set valid =
+  flat_inverse : (a : ℕ) → IsFlatByCapacitiesAt t a → IsFlatByCapacitiesAt t (inverse_letter a)
+  flat_inverse a flat set valid =
       let others : ℕ → Bool = λ x. not (in_set set x) in
-      omega (arith, tight (complement t.rank set) (complement_cut t.rank a set valid), mask_cap others, complement_cap t (in_set set) others is (λ x l. refl), inverse_degree t a is)
+      omega (arith, flat (complement t.rank set) (complement_cut t.rank a set valid), mask_cap others, complement_cap t (in_set set) others is (λ x l. refl), inverse_degree t a is)
 
-  tight_everywhere : IsTight t → (a : ℕ) → IsTightAt t a
-  tight_everywhere tight a = elim (generator_of a) [
-    | inl e ↦ subst (IsTightAt t) (sym e) (tight (a / 2))
-    | inr e ↦ subst (IsTightAt t) (sym e) (tight_inverse (2 * (a / 2)) (tight (a / 2)))
+  flat_everywhere : IsFlatByCapacities t → (a : ℕ) → IsFlatByCapacitiesAt t a
+  flat_everywhere flat a = elim (generator_of a) [
+    | inl e ↦ subst (IsFlatByCapacitiesAt t) (sym e) (flat (a / 2))
+    | inr e ↦ subst (IsFlatByCapacitiesAt t) (sym e) (flat_inverse (2 * (a / 2)) (flat (a / 2)))
   ]
 
   -- ---- least cuts
@@ -122,7 +122,7 @@ module _ (t : TupleData) (is : IsTuple t) where
     | inr e ↦
         let flat : IsFlatAt t (2 * (s.multiplier / 2)) = s.earlier (2 * (s.multiplier / 2)) (omega (arith, e, inverse_even (s.multiplier / 2))) in
         let none : IsFlatAt t s.multiplier =
-        subst (IsFlatAt t) (sym e) (tight_flat (inverse_letter (2 * (s.multiplier / 2))) (tight_inverse (2 * (s.multiplier / 2)) (flat_tight (2 * (s.multiplier / 2)) flat))) in
+        subst (IsFlatAt t) (sym e) (at_lengths (inverse_letter (2 * (s.multiplier / 2))) (flat_inverse (2 * (s.multiplier / 2)) (at_capacities (2 * (s.multiplier / 2)) flat))) in
         absurd (omega (arith, s.cut.shortens, none s.set s.cut.valid))
   ]
 
@@ -136,7 +136,7 @@ module _ (t : TupleData) (is : IsTuple t) where
         is = s.is ∙ ap (λ a. cut_move t.rank a s.set) e;
         cut = shortest_least (2 * (s.multiplier / 2)) s.set shortest;
         below = omega (arith, shortest.shortens, length_law t (2 * (s.multiplier / 2)) s.set is shortest.valid);
-        earlier = λ g l. flat_tight (2 * g) (s.earlier (2 * g) (omega arith));
+        earlier = λ g l. at_capacities (2 * g) (s.earlier (2 * g) (omega arith));
       }
 
   to_lengths : (m : Move) → IsCapacityStep t m → IsStep t m
@@ -145,14 +145,14 @@ module _ (t : TupleData) (is : IsTuple t) where
     set = s.set;
     is = s.is;
     cut = least_shortest (2 * s.generator) s.set s.cut s.below;
-    earlier = λ a l. tight_flat a (elim (generator_of a) [
-      | inl e ↦ subst (IsTightAt t) (sym e) (s.earlier (a / 2) (omega arith))
-      | inr e ↦ subst (IsTightAt t) (sym e) (tight_inverse (2 * (a / 2)) (s.earlier (a / 2) (omega arith)))
+    earlier = λ a l. at_lengths a (elim (generator_of a) [
+      | inl e ↦ subst (IsFlatByCapacitiesAt t) (sym e) (s.earlier (a / 2) (omega arith))
+      | inr e ↦ subst (IsFlatByCapacitiesAt t) (sym e) (flat_inverse (2 * (a / 2)) (s.earlier (a / 2) (omega arith)))
     ]);
   }
 
-pub flat_is_tight : FlatIsTight
-flat_is_tight t is = (λ flat g. flat_tight t is (2 * g) (flat (2 * g)), λ tight a. tight_flat t is a (tight_everywhere t is tight a))
+pub flat_by_capacities : FlatIsByCapacities
+flat_by_capacities t is = (λ flat g. at_capacities t is (2 * g) (flat (2 * g)), λ flat a. at_lengths t is a (flat_everywhere t is flat a))
 
 pub steps_agree : StepsAgree
 steps_agree t m is = (to_capacities t is m, to_lengths t is m)
@@ -166,11 +166,11 @@ step_tuple t m is rank s =
     subst (λ (k : Move). IsTuple (act t k)) (sym s.is) (act_tuple t move is valid refl (omega (arith, s.cut.shortens, is.short)))
 
 trace_to_capacities : (t end : TupleData) (ms : List Move) → IsTuple t → t.rank ≤ 26 → IsTrace t ms end → IsCapacityTrace t ms end
-trace_to_capacities t end [] is rank (done flat) = tight_end ((flat_is_tight t is).0 flat)
+trace_to_capacities t end [] is rank (done flat) = flat_end ((flat_by_capacities t is).0 flat)
 trace_to_capacities t end (m ∷ ms) is rank (step s r) = cut_step (to_capacities t is m s) (trace_to_capacities (act t m) end ms (step_tuple t m is rank s) rank r)
 
 trace_to_lengths : (t end : TupleData) (ms : List Move) → IsTuple t → t.rank ≤ 26 → IsCapacityTrace t ms end → IsTrace t ms end
-trace_to_lengths t end [] is rank (tight_end flat) = done ((flat_is_tight t is).1 flat)
+trace_to_lengths t end [] is rank (flat_end flat) = done ((flat_by_capacities t is).1 flat)
 trace_to_lengths t end (m ∷ ms) is rank (cut_step s r) =
     let measured : IsStep t m = to_lengths t is m s in
     step measured (trace_to_lengths (act t m) end ms (step_tuple t m is rank measured) rank r)

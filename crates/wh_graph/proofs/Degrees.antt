@@ -4,6 +4,7 @@ use Rattle.std.specs.List.{All, sum_by, flat_map}
 use Rattle.std.proofs.lemmas.Bool.{cases_eq, eq-eqb, ne_eqb, eqb-true}
 use Rattle.std.proofs.lemmas.List.Sums.{sum_by-cons}
 use Rattle.std.proofs.lemmas.List.Elements.{All-head, All-tail}
+use Rattle.std.proofs.Math.Bool.{or_comm}
 use Rattle.wh_words.specs.Letters.{inverse_letter}
 use Rattle.wh_words.specs.Words.{IsReduced}
 use Rattle.wh_words.specs.CyclicWords.{cyclic_word, IsCyclicallyReduced}
@@ -75,14 +76,8 @@ degree_counts t a is = go t.words is.cyclic
           go ws (All-tail (λ v. cyclic_word v ≡ v) w ws c),
         )
 
-swapped : (b c : Bool) → (b || c) ≡ (c || b)
-swapped true true = refl
-swapped true false = refl
-swapped false true = refl
-swapped false false = refl
-
 of_inverse : (a x : ℕ) → is_of (inverse_letter a) x ≡ is_of a x
-of_inverse a x = ap (λ z. (x == inverse_letter a) || (x == z)) (inverse-inverse a) ∙ swapped (x == inverse_letter a) (x == a)
+of_inverse a x = ap (λ z. (x == inverse_letter a) || (x == z)) (inverse-inverse a) ∙ or_comm (x == inverse_letter a) (x == a)
 
 pub inverse_degree : InversesHaveOneDegree
 inverse_degree t a is = degree_counts t (inverse_letter a) is ∙ go t.words ∙ sym (degree_counts t a is)

@@ -10,6 +10,7 @@ use Rattle.wh_words.specs.Tuples.{TupleData, IsTuple}
 use Rattle.wh_words.specs.Edges.{edges, edges_after, word_edges, crosses, cap}
 use Rattle.wh_words.proofs.FreeReduction.{inverse-inverse}
 use Rattle.wh_words.proofs.CutImages.{own_reduced, last_is, follows}
+use Rattle.wh_words.proofs.ImageLetters.{inverse_below}
 use Rattle.wh_graph.specs.Laws.{JoinsTwo, AsManyEdgesAsLetters, EdgesJoinTwoLetters, ComplementsHaveOneCapacity, CapacitiesAreSubmodular}
 
 -- ---- counts of any list
@@ -49,10 +50,6 @@ edges_length t = go t.words
 pub round_reduced : (w : List ℕ) → IsCyclicallyReduced w → IsReduced (get_or w (length w - 1) 0 ∷ w)
 round_reduced [] r = (tt, tt)
 round_reduced (x ∷ w) r = subst (λ (p : ℕ). IsReduced (p ∷ x ∷ w)) (sym (last_is 0 (λ _. false) x w)) (follows 0 (λ _. false) x w r)
-
-pub inverse_below : (n x : ℕ) → x < 2 * n → inverse_letter x < 2 * n
-unfolding inverse_letter
-inverse_below n x h = omega arith
 
 edges_after_join : (n p : ℕ) (w : List ℕ) → p < 2 * n → IsOfRank n w → IsReduced (p ∷ w) → All (JoinsTwo n) (edges_after p w)
 edges_after_join n p [] h o r = All-nil (JoinsTwo n)

@@ -9,6 +9,7 @@ use Rattle.wh_words.specs.TupleFlows.{edge_table}
 use Rattle.wh_words.specs.Flows.{sum_below, where_in, capacity_of_set}
 use Rattle.wh_flow.specs.Nets.{cell}
 use Rattle.wh_flow.proofs.Sums.{sum-same, sum-add, sum-zero, sum-one}
+use Rattle.wh_flow.proofs.SetSums.{where-zero, where-add}
 use Rattle.wh_graph.specs.Laws.{JoinsTwo}
 use Rattle.wh_graph.specs.Graphs.{GraphHasTheCapacities, GraphHasTheDegrees}
 use Rattle.wh_graph.proofs.EdgeCounts.{one, count-cons, edges_join}
@@ -22,14 +23,6 @@ sum_at n s f l e = omega (arith, sum-one n s (f s) f (λ _. 0) l e (omega arith)
 sum_none : (n : ℕ) (f : ℕ → ℕ) → ((k : ℕ) → k < n → f k ≡ 0) → sum_below n f ≡ 0
 sum_none n f e = sum-same n f (λ _. 0) e ∙ sum-zero n
 
-where_zero : (b : Bool) → where_in b 0 ≡ 0
-where_zero true = refl
-where_zero false = refl
-
-where_add : (b : Bool) (m n : ℕ) → where_in b (m + n) ≡ where_in b m + where_in b n
-where_add true m n = refl
-where_add false m n = omega arith
-
 -- ---- capacities and degrees of sums of tables
 row : (ℕ → ℕ → ℕ) → (ℕ → Bool) → ℕ → ℕ
 row c A x = sum_below 52 (λ y. where_in (not (A y)) (c x y))
@@ -41,7 +34,7 @@ row_same c d A x e = sum-same 52 (λ y. where_in (not (A y)) (c x y)) (λ y. whe
 row_add : (c d : ℕ → ℕ → ℕ) (A : ℕ → Bool) (x : ℕ) → row (λ u v. c u v + d u v) A x ≡ row c A x + row d A x
 unfolding row
 row_add c d A x =
-    sum-same 52 (λ y. where_in (not (A y)) (c x y + d x y)) (λ y. where_in (not (A y)) (c x y) + where_in (not (A y)) (d x y)) (λ y l. where_add (not (A y)) (c x y) (d x y))
+    sum-same 52 (λ y. where_in (not (A y)) (c x y + d x y)) (λ y. where_in (not (A y)) (c x y) + where_in (not (A y)) (d x y)) (λ y l. where-add (not (A y)) (c x y) (d x y))
     ∙ sum-add 52 (λ y. where_in (not (A y)) (c x y)) (λ y. where_in (not (A y)) (d x y))
 
 capacity_rows : (c : ℕ → ℕ → ℕ) (A : ℕ → Bool) → capacity_of_set c A ≡ sum_below 52 (λ x. where_in (A x) (row c A x))
@@ -58,7 +51,7 @@ capacity_add : (c d : ℕ → ℕ → ℕ) (A : ℕ → Bool) → capacity_of_se
 capacity_add c d A =
     capacity_rows (λ x y. c x y + d x y) A
     ∙ sum-same 52 (λ x. where_in (A x) (row (λ u v. c u v + d u v) A x)) (λ x. where_in (A x) (row c A x) + where_in (A x) (row d A x))
-    (λ x l. ap (where_in (A x)) (row_add c d A x) ∙ where_add (A x) (row c A x) (row d A x))
+    (λ x l. ap (where_in (A x)) (row_add c d A x) ∙ where-add (A x) (row c A x) (row d A x))
     ∙ sum-add 52 (λ x. where_in (A x) (row c A x)) (λ x. where_in (A x) (row d A x))
     ∙ omega (arith, capacity_rows c A, capacity_rows d A)
 
@@ -85,17 +78,17 @@ module _ (p q : ℕ) (hp : p < 52) (hq : q < 52) (A : ℕ → Bool) where
   unfolding row
   arrow_row =
       sum_at 52 q (λ y. where_in (not (A y)) (arrow p q p y)) hq
-      (λ y l n. ap (where_in (not (A y))) (arrow_from p q y ∙ ap one (ne_eqb q y (λ e. n (sym e)))) ∙ where_zero (not (A y)))
+      (λ y l n. ap (where_in (not (A y))) (arrow_from p q y ∙ ap one (ne_eqb q y (λ e. n (sym e)))) ∙ where-zero (not (A y)))
       ∙ ap (where_in (not (A q))) (arrow_from p q q ∙ ap one (eq-eqb q q refl))
 
   arrow_row_other : (x : ℕ) → x ≢ p → row (arrow p q) A x ≡ 0
   unfolding row
-  arrow_row_other x n = sum_none 52 (λ y. where_in (not (A y)) (arrow p q x y)) (λ y l. ap (where_in (not (A y))) (arrow_other p q x y n) ∙ where_zero (not (A y)))
+  arrow_row_other x n = sum_none 52 (λ y. where_in (not (A y)) (arrow p q x y)) (λ y l. ap (where_in (not (A y))) (arrow_other p q x y n) ∙ where-zero (not (A y)))
 
   arrow_capacity : capacity_of_set (arrow p q) A ≡ one (A p && not (A q))
   arrow_capacity =
       capacity_rows (arrow p q) A
-      ∙ sum_at 52 p (λ x. where_in (A x) (row (arrow p q) A x)) hp (λ x l n. ap (where_in (A x)) (arrow_row_other x n) ∙ where_zero (A x))
+      ∙ sum_at 52 p (λ x. where_in (A x) (row (arrow p q) A x)) hp (λ x l n. ap (where_in (A x)) (arrow_row_other x n) ∙ where-zero (A x))
       ∙ ap (where_in (A p)) arrow_row
       ∙ out_of (A p) (not (A q))
 
@@ -156,10 +149,10 @@ table_none x y = refl
 
 empty_row : (A : ℕ → Bool) (x : ℕ) → row (table []) A x ≡ 0
 unfolding row
-empty_row A x = sum_none 52 (λ y. where_in (not (A y)) (table [] x y)) (λ y l. ap (where_in (not (A y))) (table_none x y) ∙ where_zero (not (A y)))
+empty_row A x = sum_none 52 (λ y. where_in (not (A y)) (table [] x y)) (λ y l. ap (where_in (not (A y))) (table_none x y) ∙ where-zero (not (A y)))
 
 table_capacity : (A : ℕ → Bool) (es : List (ℕ × ℕ)) → All (JoinsTwo 26) es → capacity_of_set (table es) A ≡ count_by (crosses A) es
-table_capacity A [] h = capacity_rows (table []) A ∙ sum_none 52 (λ x. where_in (A x) (row (table []) A x)) (λ x l. ap (where_in (A x)) (empty_row A x) ∙ where_zero (A x))
+table_capacity A [] h = capacity_rows (table []) A ∙ sum_none 52 (λ x. where_in (A x) (row (table []) A x)) (λ x l. ap (where_in (A x)) (empty_row A x) ∙ where-zero (A x))
 table_capacity A (e ∷ es) h =
     let j : JoinsTwo 26 e = All-head (JoinsTwo 26) e es h in
     let there : ℕ → ℕ → ℕ = arrow e.0 e.1 in

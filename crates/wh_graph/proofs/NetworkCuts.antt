@@ -11,7 +11,7 @@ use Rattle.wh_words.specs.Edges.{cap}
 use Rattle.wh_words.specs.Flows.{capacity_of_set, Separates, IsLeastCut}
 use Rattle.wh_words.specs.CapacityTraces.{IsLeastCapacityCut}
 use Rattle.wh_flow.specs.Nets.{Net, cell}
-use Rattle.wh_graph.specs.Graphs.{IsGraph, GraphHasTheLeastCuts, GraphTellsTightness}
+use Rattle.wh_graph.specs.Graphs.{IsGraph, GraphHasTheLeastCuts, GraphTellsFlatness}
 use Rattle.wh_graph.proofs.SetNumbers.{mask, mask_lt, mask_has, mask_cut, holds, omits, holds_back}
 use Rattle.wh_graph.proofs.Agreement.{mask_cap}
 use Rattle.wh_graph.proofs.EdgeTables.{graph_capacity, graph_degree}
@@ -74,8 +74,8 @@ module _ (net : Net) (t : TupleData) (is : IsTuple t) (rank : t.rank ≤ 26) (gr
 pub graph_least_cut : GraphHasTheLeastCuts
 graph_least_cut net t a set is rank graph of_rank within = (to_tuple net t is rank graph a set of_rank within, to_network net t is rank graph a set of_rank)
 
-pub graph_tight : GraphTellsTightness
-graph_tight net t a is rank graph of_rank = (
+pub graph_flat : GraphTellsFlatness
+graph_flat net t a is rank graph of_rank = (
   λ full has s.
       omega (
         arith,

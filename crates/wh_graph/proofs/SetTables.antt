@@ -3,11 +3,12 @@ use Rattle.std.proofs.Common.{◌≡◌, ◌≢◌, ℕ, zero, suc, ◌+◌, ◌
 use Rattle.std.specs.Int.{bit_at}
 use Rattle.std.proofs.lemmas.Bool.{cases_lt}
 use Rattle.std.proofs.lemmas.List.{get_or_push, get_or_append_left}
-use Rattle.std.proofs.lemmas.Nat.Bits.{bit_at_above, bit_at-zero}
+use Rattle.std.proofs.lemmas.Nat.Bits.{bit_at_above}
 use Rattle.wh_words.specs.LetterSets.{in_set}
 use Rattle.wh_words.specs.Flows.{sum_below, where_in, degree}
 use Rattle.wh_flow.specs.Nets.{Net, IsNet, cell}
 use Rattle.wh_flow.proofs.Sums.{sum-same, sum-zero, sum-one}
+use Rattle.wh_flow.proofs.Reached.{none_seen}
 use Rattle.wh_moves.proofs.Masks.{added_same, added_other}
 use Rattle.wh_graph.proofs.SetNumbers.{holds, omits}
 use Rattle.wh_graph.proofs.CellSums.{cell_most}
@@ -71,17 +72,14 @@ module _ (set y : ℕ) (below : set < 2 ^ y) where
       (λ x h. is.symmetric x y h low) (is.diagonal y low)
 
 -- ---- the empty set
-none_in : (y : ℕ) → in_set 0 y ≡ false
-none_in y = omits 0 y (bit_at-zero y)
-
 pub edges_into_none : (cells : List ℕ) (x : ℕ) → 0 ≡ edges_into cells x 0
 edges_into_none cells x =
-    sym (sum-same 52 (λ y. where_in (in_set 0 y) (cell cells x y)) (λ _. 0) (λ y h. ap (λ b. where_in b (cell cells x y)) (none_in y)) ∙ sum-zero 52)
+    sym (sum-same 52 (λ y. where_in (in_set 0 y) (cell cells x y)) (λ _. 0) (λ y h. ap (λ b. where_in b (cell cells x y)) (none_seen y)) ∙ sum-zero 52)
 
 pub capacity_of_none : (cells : List ℕ) → 0 ≡ set_capacity cells 0
 capacity_of_none cells =
     sym (sum-same 52 (λ x. where_in (in_set 0 x) (sum_below 52 (λ y. where_in (not (in_set 0 y)) (cell cells x y)))) (λ _. 0)
-    (λ x h. ap (λ b. where_in b (sum_below 52 (λ y. where_in (not (in_set 0 y)) (cell cells x y)))) (none_in x)) ∙ sum-zero 52)
+    (λ x h. ap (λ b. where_in b (sum_below 52 (λ y. where_in (not (in_set 0 y)) (cell cells x y)))) (none_seen x)) ∙ sum-zero 52)
 
 -- ---- bounds
 sum_most : (n b : ℕ) (f : ℕ → ℕ) → ((k : ℕ) → k < n → f k ≤ b) → sum_below n f ≤ n * b

@@ -1,6 +1,7 @@
 -- What is known of capacities, degrees and lengths, as statements that contracts name, after Lyndon and Schupp, I.4.
 use Rattle.std.specs.Prelude.{◌≡◌, ◌≢◌, ℕ, ◌+◌, ◌*◌, ◌<◌, ◌≤◌, ◌==◌, ◌&&◌, ◌||◌, Bool, not, List, length, count_by, ◌↔◌}
 use Rattle.std.specs.List.{All, sum_by}
+use Rattle.wh_words.specs.Limits.{most_rank}
 use Rattle.wh_words.specs.Letters.{inverse_letter}
 use Rattle.wh_words.specs.LetterSets.{in_set}
 use Rattle.wh_words.specs.Tuples.{TupleData, IsTuple, tuple_length}
@@ -9,7 +10,7 @@ use Rattle.wh_words.specs.Moves.Kind.{swap, invert}
 use Rattle.wh_words.specs.Action.{act}
 use Rattle.wh_words.specs.Edges.{edges, cap, deg}
 use Rattle.wh_words.specs.Traces.{cut_length, IsFlat, IsStep, IsTrace}
-use Rattle.wh_words.specs.CapacityTraces.{IsTight, IsCapacityStep, IsCapacityTrace}
+use Rattle.wh_words.specs.CapacityTraces.{IsFlatByCapacities, IsCapacityStep, IsCapacityTrace}
 
 -- ---- edges
 -- There are as many edges as letters.
@@ -68,9 +69,9 @@ abbrev pub InversionsKeepTheLength : Type 0
 InversionsKeepTheLength = (t : TupleData) (k n : ℕ) → IsTuple t → IsKind n (invert k) → tuple_length (act t (record { rank = n; kind = invert k })) ≡ tuple_length t
 
 -- ---- traces
--- A tuple is flat exactly where it is tight.
-abbrev pub FlatIsTight : Type 0
-FlatIsTight = (t : TupleData) → IsTuple t → IsFlat t ↔ IsTight t
+-- A tuple is flat by lengths exactly where it is flat by capacities.
+abbrev pub FlatIsByCapacities : Type 0
+FlatIsByCapacities = (t : TupleData) → IsTuple t → IsFlat t ↔ IsFlatByCapacities t
 
 -- The step by lengths is the step by capacities.
 abbrev pub StepsAgree : Type 0
@@ -78,4 +79,4 @@ StepsAgree = (t : TupleData) (m : Move) → IsTuple t → IsStep t m ↔ IsCapac
 
 -- The trace by lengths is the trace by capacities.
 abbrev pub TracesAgree : Type 0
-TracesAgree = (t end : TupleData) (ms : List Move) → IsTuple t → t.rank ≤ 26 → IsTrace t ms end ↔ IsCapacityTrace t ms end
+TracesAgree = (t end : TupleData) (ms : List Move) → IsTuple t → t.rank ≤ most_rank → IsTrace t ms end ↔ IsCapacityTrace t ms end

@@ -1,5 +1,6 @@
 //! Capacities of sets and degrees of letters.
 ghost use Rattle.std.specs.Prelude.{◌≡◌, ◌*◌, ◌≤◌, not};
+ghost use Rattle.wh_words.specs.Limits.{most_letters};
 ghost use Rattle.wh_words.specs.LetterSets.{in_set};
 ghost use Rattle.wh_words.specs.Flows.{sum_below, where_in, degree, capacity_of_set};
 ghost use Rattle.wh_flow.specs.Nets.{cell};
@@ -10,7 +11,7 @@ use wh_words::{Letter, LetterSet};
 /// How many edges lead from a letter out of a set.
 fn edges_out(net: &Net, x: Letter, set: LetterSet) -> u32
     ensures value { result ≡ sum_below 52 (λ y. where_in (not (in_set set y)) (cell net.now.cells x y)) }
-    ensures few { result ≤ 52 * 4096 }
+    ensures few { result ≤ 52 * most_letters }
 {
     let mut total = 0;
     for index in 0..2 * net.rank().get() {

@@ -1,6 +1,6 @@
 //! Laws of capacities, degrees and lengths. Each is the contract of a function that does nothing.
-ghost use Rattle.wh_graph.specs.Laws.{AsManyEdgesAsLetters, EdgesJoinTwoLetters, DegreeCountsLetters, InversesHaveOneDegree, SingletonHasTheDegree, ComplementsHaveOneCapacity, CapacitiesAreSubmodular, LengthLaw, CutsShortenBelowTheDegree, SwapsKeepTheLength, InversionsKeepTheLength, FlatIsTight, StepsAgree, TracesAgree};
-ghost use Rattle.wh_graph.specs.Graphs.{GraphHasTheCapacities, GraphHasTheDegrees, GraphHasTheLeastCuts, GraphTellsTightness};
+ghost use Rattle.wh_graph.specs.Laws.{AsManyEdgesAsLetters, EdgesJoinTwoLetters, DegreeCountsLetters, InversesHaveOneDegree, SingletonHasTheDegree, ComplementsHaveOneCapacity, CapacitiesAreSubmodular, LengthLaw, CutsShortenBelowTheDegree, SwapsKeepTheLength, InversionsKeepTheLength, FlatIsByCapacities, StepsAgree, TracesAgree};
+ghost use Rattle.wh_graph.specs.Graphs.{GraphHasTheCapacities, GraphHasTheDegrees, GraphHasTheLeastCuts, GraphTellsFlatness};
 
 /// The Whitehead graph has an edge for each letter, and each edge joins two different letters of the rank (Lyndon
 /// and Schupp, I.4).
@@ -23,12 +23,12 @@ pub fn capacities()
 {}
 
 /// The network of the Whitehead graph has the capacities, the degrees and the least cuts of the tuple, and tells where it
-/// is tight.
+/// is flat.
 pub fn networks()
     ensures capacities { GraphHasTheCapacities }
     ensures degrees { GraphHasTheDegrees }
     ensures least_cuts { GraphHasTheLeastCuts }
-    ensures tight { GraphTellsTightness }
+    ensures flat { GraphTellsFlatness }
 {}
 
 /// How moves change the length of a tuple (Lyndon and Schupp, I.4).
@@ -41,7 +41,7 @@ pub fn lengths()
 
 /// The steps by lengths are the steps by capacities (Roig, Ventura and Weil 2007).
 pub fn traces()
-    ensures flat { FlatIsTight }
+    ensures flat { FlatIsByCapacities }
     ensures steps { StepsAgree }
     ensures traces { TracesAgree }
 {}

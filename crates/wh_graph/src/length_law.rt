@@ -1,5 +1,6 @@
 //! How long a tuple is after a move.
 ghost use Rattle.std.specs.Prelude.{◌≡◌, ◌≤◌, length, count_by};
+ghost use Rattle.wh_words.specs.Limits.{most_letters};
 ghost use Rattle.wh_words.specs.Letters.{inverse_letter};
 ghost use Rattle.wh_words.specs.LetterSets.{in_set};
 ghost use Rattle.wh_words.specs.Tuples.{tuple_length};
@@ -22,7 +23,7 @@ fn leaves(before: Letter, x: Letter, set: LetterSet) -> bool
 
 /// How many edges of a cyclic word leave a set.
 fn crossings(word: &[Letter], set: LetterSet) -> u32
-    requires { length word.now ≤ 4096 }
+    requires { length word.now ≤ most_letters }
     ensures { result ≡ count_by (crosses (in_set set)) (word_edges word.now) }
 {
     let mut total = 0;
@@ -40,7 +41,7 @@ fn crossings(word: &[Letter], set: LetterSet) -> u32
 
 /// How many letters of a word are a letter or its inverse.
 fn occurrences(word: &[Letter], letter: Letter) -> u32
-    requires { length word.now ≤ 4096 }
+    requires { length word.now ≤ most_letters }
     ensures { result ≡ count_by (is_of letter) word.now }
 {
     let mut total = 0;

@@ -1,5 +1,6 @@
 //! The capacities of all sets of letters of a rank.
 ghost use Rattle.std.specs.Prelude.{◌≡◌, ◌+◌, ◌*◌, ◌^◌, ◌<◌, ◌≤◌, OnOk, IfOk};
+ghost use Rattle.wh_words.specs.Limits.{most_level_rank};
 ghost use Rattle.wh_flow.specs.Nets.{IsNet};
 ghost use Rattle.wh_graph.specs.CapacityTables.{IsTable, edges_into, set_capacity};
 
@@ -73,7 +74,7 @@ fn double_capacities(
 /// none of them afresh. `OutOfMemory` comes where memory is short for the table, of 4 to the rank numbers, or for the
 /// counts of edges, of half as many.
 pub fn capacity_table(alloc: Global, net: &Net) -> Result<Vec<u32>, OutOfMemory>
-    requires { net.now.rank ≤ 6 }
+    requires { net.now.rank ≤ most_level_rank }
     ensures { IfOk result (λ v. IsTable (set_capacity net.now.cells) (2 ^ (2 * net.now.rank)) v.items) }
 {
     let letters = 2 * net.rank().get();

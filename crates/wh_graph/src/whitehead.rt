@@ -1,5 +1,6 @@
 //! The Whitehead graph.
 ghost use Rattle.std.specs.Prelude.{◌≡◌, ℕ, ◌+◌, ◌<◌, ◌≤◌, length, count_by};
+ghost use Rattle.wh_words.specs.Limits.{most_letters};
 ghost use Rattle.wh_words.specs.Words.{IsOfRank};
 ghost use Rattle.wh_words.specs.CyclicWords.{IsCyclicallyReduced};
 ghost use Rattle.wh_words.specs.Edges.{joins, word_edges};
@@ -14,7 +15,7 @@ use wh_words::{Letter, Tuple};
 fn add_word(net: &mut Net, word: &[Letter])
     requires reduced { IsCyclicallyReduced word.now }
     requires of_rank { IsOfRank net.old.rank word.now }
-    requires few { edge_count net.old.cells + length word.now ≤ 4096 }
+    requires few { edge_count net.old.cells + length word.now ≤ most_letters }
     ensures rank { net.new.rank ≡ net.old.rank }
     ensures edges { (x y : ℕ) → x < 52 → y < 52 → cell net.new.cells x y ≡ cell net.old.cells x y + count_by (joins x y) (word_edges word.now) }
     ensures count { edge_count net.new.cells ≡ edge_count net.old.cells + length word.now }

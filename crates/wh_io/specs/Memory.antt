@@ -22,9 +22,10 @@ after_read s n = record s { bytes_left = drop n s.bytes_left; calls = next_count
 abbrev pub after_failed_read : SourceState → SourceState
 after_failed_read s = record s { calls = next_count s.calls; faults = next_count s.faults }
 
--- the bytes held, the most that one write takes, the numbers of the writes that fail, and how many writes were asked for and failed
+-- the bytes held, those of them that were sent on, the most that one write takes, the numbers of the writes that fail, and how many writes were asked for and failed
 pub record SinkState : Type 0 where
   pub bytes_held : List ℕ
+  pub bytes_sent : List ℕ
   pub most : ℕ
   pub fails : List ℕ
   pub calls : ℕ
@@ -41,3 +42,7 @@ after_write s bs = record s { bytes_held = s.bytes_held ++ bs; calls = next_coun
 -- the sink after a write that failed
 abbrev pub after_failed_write : SinkState → SinkState
 after_failed_write s = record s { calls = next_count s.calls; faults = next_count s.faults }
+
+-- the sink after a flush
+abbrev pub after_flush : SinkState → SinkState
+after_flush s = record s { bytes_sent = s.bytes_held }

@@ -1,6 +1,6 @@
-ghost use Rattle.std.specs.Prelude.{◌≡◌, ℕ, ◌<◌, ◌≤◌, List, [], length, take, IfOk, OnErr};
+ghost use Rattle.std.specs.Prelude.{◌≡◌, ℕ, ◌<◌, ◌≤◌, List, [], length, take, IfOk, OnOk, OnErr};
 ghost use Rattle.std.specs.declared.option.Option.{Option};
-ghost use Rattle.wh_io.specs.Device.{Consumed, Appended, IsAtEnd, HasCause};
+ghost use Rattle.wh_io.specs.Device.{Consumed, Appended, StaysSent, IsAllSent, IsAtEnd, counted};
 
 use thiserror::Error;
 
@@ -11,7 +11,8 @@ pub struct Failed;
 
 /// Where bytes come from.
 ///
-/// A source counts its faults, so that a caller can tell afterwards whether one came.
+/// A source counts its faults: a call that fails is counted, and one that succeeds is not. So a
+/// caller can tell afterwards whether one came.
 pub trait Source {
     // The bytes that are left to read, where the source tells them.
     ghost left: { Self → Option (List ℕ) };
@@ -38,15 +39,19 @@ pub trait Source {
             Consumed (left self.old) (left self.new) (take n into.new)) }
         ensures end { IfOk result (λ n. n ≡ 0 → IsAtEnd (left self.new)) }
         ensures kept { OnErr result (Consumed (left self.old) (left self.new) []) }
-        ensures cause { HasCause (fault_count self.old) (fault_count self.new) result };
+        ensures fault { fault_count self.new ≡ counted (fault_count self.old) result };
 }
 
 /// Where bytes go.
 ///
-/// A sink counts its faults, so that a caller can tell afterwards whether one came.
+/// A sink counts its faults: a call that fails is counted, and one that succeeds is not. So a
+/// caller can tell afterwards whether one came.
 pub trait Sink {
-    // The bytes that the sink holds, where it tells them.
+    // The bytes that the sink holds, which are all that it took, where it tells them.
     ghost held: { Self → Option (List ℕ) };
+
+    // Those of them that it sent on, where it tells them.
+    ghost sent: { Self → Option (List ℕ) };
 
     // How often it failed.
     ghost fault_count: { Self → ℕ };
@@ -58,8 +63,8 @@ pub trait Sink {
     /// Takes bytes from the front of `piece`, and answers how many: at least one, unless `piece`
     /// is empty.
     ///
-    /// `Failed` says that the sink failed in this call, so that its count went up, unless it stood
-    /// at `u64::MAX`. It then took nothing.
+    /// The sink may send bytes on, or keep them back until a flush. `Failed` says that it failed in
+    /// this call, so that its count went up, unless it stood at `u64::MAX`. It then took nothing.
     fn write(&mut self, piece: &[u8]) -> Result<usize, Failed>
         ensures bound { IfOk result (λ n. n ≤ length piece.now) }
         ensures some { IfOk result (λ n. 0 < length piece.now → 0 < n) }
@@ -69,13 +74,16 @@ pub trait Sink {
         ensures bytes { IfOk result (λ n.
             Appended (held self.old) (held self.new) (take n piece.now)) }
         ensures kept { OnErr result (Appended (held self.old) (held self.new) []) }
-        ensures cause { HasCause (fault_count self.old) (fault_count self.new) result };
+        ensures sent { StaysSent (sent self.old) (sent self.new) }
+        ensures fault { fault_count self.new ≡ counted (fault_count self.old) result };
 
-    /// Sends on what the sink keeps back. The bytes held stay.
+    /// Sends on all that the sink keeps back. The bytes held stay.
     ///
     /// `Failed` says that the sink failed in this call, so that its count went up, unless it stood
-    /// at `u64::MAX`.
+    /// at `u64::MAX`. It may then have sent on a part.
     fn flush(&mut self) -> Result<(), Failed>
         ensures bytes { Appended (held self.old) (held self.new) [] }
-        ensures cause { HasCause (fault_count self.old) (fault_count self.new) result };
+        ensures sent { StaysSent (sent self.old) (sent self.new) }
+        ensures all { OnOk result (IsAllSent (held self.new) (sent self.new)) }
+        ensures fault { fault_count self.new ≡ counted (fault_count self.old) result };
 }

@@ -1,16 +1,17 @@
-ghost use Rattle.std.specs.Prelude.{◌≡◌, ◌<◌, min, [], length, take, Some, IsOk, IsErr, IfOk, OnErr};
-ghost use Rattle.wh_io.specs.Device.{HasCause};
-ghost use Rattle.wh_io.specs.Memory.{SinkState, NextWriteFails, after_write, after_failed_write};
+ghost use Rattle.std.specs.Prelude.{◌≡◌, ◌<◌, ◌≤◌, min, [], length, take, Some, IsOk, IsErr, IfOk, OnErr, vec_len};
+ghost use Rattle.wh_io.specs.Device.{StaysSent, counted};
+ghost use Rattle.wh_io.specs.Memory.{SinkState, NextWriteFails, after_write, after_failed_write, after_flush};
 
 use crate::device::{Failed, Sink};
 use std::alloc::Global;
 use std::marker::Model;
 
 /// A sink in memory, for tests: how many bytes a write takes at most, and which writes fail, is
-/// told when it is made.
+/// told when it is made. It sends bytes on at a flush alone.
 #[derive(Drop)]
 pub struct MemSink {
     bytes: Vec<u8>,
+    sent: usize,
     most: usize,
     fails: Vec<u64>,
     calls: u64,
@@ -22,13 +23,14 @@ impl Model for MemSink {
 
     ghost view = { λ s. record {
       bytes_held = s.bytes.items;
+      bytes_sent = take s.sent s.bytes.items;
       most = s.most;
       fails = s.fails.items;
       calls = s.calls;
       faults = s.faults;
     } };
 
-    ghost invariant = { λ s. 0 < s.most };
+    ghost invariant = { λ s. (0 < s.most) × (s.sent ≤ vec_len s.bytes) };
 }
 
 impl MemSink {
@@ -39,6 +41,7 @@ impl MemSink {
         requires { 0 < most }
         ensures { result ≡ record {
           bytes_held = [];
+          bytes_sent = [];
           most = most;
           fails = fails.items;
           calls = 0;
@@ -47,6 +50,7 @@ impl MemSink {
     {
         MemSink {
             bytes: Vec::new(alloc),
+            sent: 0,
             most,
             fails,
             calls: 0,
@@ -60,10 +64,19 @@ impl MemSink {
     {
         self.bytes.as_slice()
     }
+
+    /// Those of them that it sent on: what it held at the last flush.
+    pub fn sent(&self) -> &[u8]
+        ensures { result.now ≡ self.now.bytes_sent }
+    {
+        &self.bytes[..self.sent]
+    }
 }
 
 impl Sink for MemSink {
     ghost held = { λ s. Some s.bytes_held };
+
+    ghost sent = { λ s. Some s.bytes_sent };
 
     ghost fault_count = { λ s. s.faults };
 
@@ -89,7 +102,7 @@ impl Sink for MemSink {
 
         // What a fault leaves.
         ensures err { OnErr result (self.new ≡ after_failed_write self.old) }
-        ensures cause { HasCause self.old.faults self.new.faults result }
+        ensures fault { self.new.faults ≡ counted self.old.faults result }
     {
         self.calls = self.calls.saturating_add(1);
         if self.fails.contains(&self.calls) {
@@ -104,11 +117,13 @@ impl Sink for MemSink {
         Ok(count)
     }
 
-    /// Does nothing, and never fails.
+    /// Sends on all bytes held, and never fails.
     fn flush(&mut self) -> Result<(), Failed>
         ensures ok { IsOk result }
-        ensures same { self.new ≡ self.old }
+        ensures flushed { self.new ≡ after_flush self.old }
+        ensures sent { StaysSent (Some self.old.bytes_sent) (Some self.new.bytes_sent) }
     {
+        self.sent = self.bytes.len();
         Ok(())
     }
 }

@@ -1,5 +1,5 @@
 ghost use Rattle.std.specs.Prelude.{◌≡◌, ◌<◌, ◌≤◌, ◌↔◌, min, [], ◌++◌, length, take, drop, Some, IsErr, IfOk, OnErr, vec_len};
-ghost use Rattle.wh_io.specs.Device.{HasCause};
+ghost use Rattle.wh_io.specs.Device.{counted};
 ghost use Rattle.wh_io.specs.Memory.{SourceState, NextReadFails, after_read, after_failed_read};
 
 use crate::device::{Failed, Source};
@@ -83,7 +83,7 @@ impl Source for MemSource {
         // What a fault leaves.
         ensures err { OnErr result (self.new ≡ after_failed_read self.old) }
         ensures untouched { OnErr result (into.new ≡ into.old) }
-        ensures cause { HasCause self.old.faults self.new.faults result }
+        ensures fault { self.new.faults ≡ counted self.old.faults result }
     {
         self.calls = self.calls.saturating_add(1);
         if self.fails.contains(&self.calls) {

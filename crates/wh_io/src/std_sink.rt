@@ -1,6 +1,6 @@
-ghost use Rattle.std.specs.Prelude.{◌≡◌, ◌<◌, ◌≤◌, length, None, IfOk, OnOk, OnErr};
+ghost use Rattle.std.specs.Prelude.{◌≡◌, ◌<◌, ◌≤◌, length, None, IfOk};
 ghost use Rattle.std.specs.Io.KnownBytes.{Keeps, WriteAppends};
-ghost use Rattle.wh_io.specs.Device.{HasCause, next_count};
+ghost use Rattle.wh_io.specs.Device.{counted};
 ghost use Rattle.wh_io.specs.Standard.{writer_of, sink_faults};
 
 use crate::device::{Failed, Sink};
@@ -9,7 +9,8 @@ use std::io::Write;
 /// A sink over a writer of the standard library. Each error of the writer is a fault, and so is a
 /// write that takes nothing of a piece that isn't empty.
 ///
-/// It tells nothing of the bytes held, since a writer may fall silent about them and tell again.
+/// It tells nothing of the bytes held and sent on, since a writer may fall silent about them and
+/// tell again.
 #[derive(Drop)]
 pub struct StdSink<W> {
     writer: W,
@@ -29,6 +30,8 @@ impl<W> StdSink<W> {
 impl<W: Write> Sink for StdSink<W> {
     ghost held = { λ _. None };
 
+    ghost sent = { λ _. None };
+
     ghost fault_count = { sink_faults };
 
     fn faults(&self) -> u64 {
@@ -43,9 +46,7 @@ impl<W: Write> Sink for StdSink<W> {
         ensures some { IfOk result (λ n. 0 < length piece.now → 0 < n) }
         ensures bytes { WriteAppends (W.contents (writer_of self.old))
             (W.contents (writer_of self.new)) result piece.now }
-        ensures ok { OnOk result (sink_faults self.new ≡ sink_faults self.old) }
-        ensures err { OnErr result (sink_faults self.new ≡ next_count (sink_faults self.old)) }
-        ensures cause { HasCause (sink_faults self.old) (sink_faults self.new) result }
+        ensures fault { sink_faults self.new ≡ counted (sink_faults self.old) result }
     {
         match self.writer.write(piece) {
             Ok(count) if count > 0 || piece.is_empty() => Ok(count),
@@ -61,9 +62,7 @@ impl<W: Write> Sink for StdSink<W> {
     fn flush(&mut self) -> Result<(), Failed>
         ensures bytes { Keeps (W.contents (writer_of self.old))
             (W.contents (writer_of self.new)) }
-        ensures ok { OnOk result (sink_faults self.new ≡ sink_faults self.old) }
-        ensures err { OnErr result (sink_faults self.new ≡ next_count (sink_faults self.old)) }
-        ensures cause { HasCause (sink_faults self.old) (sink_faults self.new) result }
+        ensures fault { sink_faults self.new ≡ counted (sink_faults self.old) result }
     {
         match self.writer.flush() {
             Ok(()) => Ok(()),

@@ -1,6 +1,6 @@
-ghost use Rattle.std.specs.Prelude.{◌≡◌, ◌≤◌, length, None, IfOk, OnOk, OnErr};
+ghost use Rattle.std.specs.Prelude.{◌≡◌, ◌≤◌, length, None, IfOk};
 ghost use Rattle.std.specs.Io.KnownBytes.{ReadConsumes};
-ghost use Rattle.wh_io.specs.Device.{HasCause, next_count};
+ghost use Rattle.wh_io.specs.Device.{counted};
 ghost use Rattle.wh_io.specs.Standard.{reader_of, source_faults};
 
 use crate::device::{Failed, Source};
@@ -40,9 +40,7 @@ impl<R: Read> Source for StdSource<R> {
         ensures bound { IfOk result (λ n. n ≤ length into.new) }
         ensures bytes { ReadConsumes (R.remaining (reader_of self.old))
             (R.remaining (reader_of self.new)) result into.new }
-        ensures ok { OnOk result (source_faults self.new ≡ source_faults self.old) }
-        ensures err { OnErr result (source_faults self.new ≡ next_count (source_faults self.old)) }
-        ensures cause { HasCause (source_faults self.old) (source_faults self.new) result }
+        ensures fault { source_faults self.new ≡ counted (source_faults self.old) result }
     {
         match self.reader.read(into) {
             Ok(count) => Ok(count),

@@ -1,42 +1,25 @@
 -- What rows miss, row by row and move by move.
-use Rattle.std.proofs.Common.{◌≡◌, ◌≢◌, ◌⊎◌, ◌↔◌, ℕ, zero, suc, ◌≤◌, List, [], ◌∷◌, ◌++◌, get_or, map, Option, Some, None, slice_get, Contains, refl, sym, ap, ◌∙◌, subst, arith, inl, inr, Bool, true, false, not, is_some}
+use Rattle.std.proofs.Common.{◌≡◌, ◌≢◌, ◌⊎◌, ◌↔◌, ℕ, List, [], ◌∷◌, ◌++◌, get_or, map, Option, Some, None, slice_get, Contains, sym, ap, ◌∙◌, subst, inl, inr, Bool, true, false, not, is_some}
 use Rattle.std.proofs.lemmas.Bool.{true≢false}
-use Rattle.std.proofs.lemmas.List.{length-map, map_push, get_or-map}
 use Rattle.std.proofs.lemmas.Option.{slice_get_within, get_or_from_slice_get}
-use Rattle.std.proofs.lemmas.List.Elements.{All-contains, Contains-get_or, Contains-append_left, Contains-append_right, Contains-push, Contains-push_cases}
-use Rattle.std.proofs.lemmas.List.Sorted.{Contains-permutation, IsPermutation-map, IsPermutation-sym}
+use Rattle.std.proofs.lemmas.List.Elements.{All-contains, Contains-get_or, Contains-append_left, Contains-push, Contains-push_cases}
+use Rattle.std.proofs.lemmas.List.Sorted.{Contains-permutation, IsPermutation-sym}
 use Rattle.std.specs.List.{All}
 use Rattle.std.specs.List.Sorted.{IsPermutation, IsStrictlySortedBy}
 use Rattle.std.specs.Option.{MatchOption}
 use Rattle.wh_words.specs.Tuples.{TupleData, Tuple, tuple_cmp}
 use Rattle.wh_words.specs.Moves.{Move}
 use Rattle.wh_words.specs.Action.{act}
-use Rattle.wh_words.specs.Levels.{IsLevelMove, InLevel, IsLevel}
+use Rattle.wh_words.specs.Levels.{IsLevelMove, InLevel}
 use Rattle.wh_expand.specs.declared.row.Row.{Row}
 use Rattle.wh_expand.specs.Rows.{AreLevelMoves, row_tuple}
-use Rattle.wh_level.specs.PlacedTuples.{tuples_of, IsAdded, IsPlacing}
-use Rattle.wh_level.specs.Trees.{Parents, AreParents, IsClosed}
+use Rattle.wh_sets.specs.TupleSets.{IsAdded}
+use Rattle.wh_sets.proofs.Additions.{added_either}
+use Rattle.wh_words.proofs.Elements.{contains_none, contains_map, map_contains}
+use Rattle.wh_level.specs.PlacedTuples.{IsPlacing}
+use Rattle.wh_level.specs.Trees.{LevelData, IsClosedLevel}
 use Rattle.wh_level.specs.Sealings.{IsMissed}
 use Rattle.wh_level.specs.Searches.{IsAbsentImage}
-
--- One tuple more among those that were found.
-added_either : (es fs : List (TupleData × ℕ)) (t : TupleData) (n : ℕ) → IsAdded es t n fs → (u : TupleData) → Contains (tuples_of fs) u ↔ (Contains (tuples_of es) u ⊎ (t ≡ u))
-added_either es fs t n (inl a) u = subst (λ (x : List (TupleData × ℕ)). Contains (tuples_of x) u ↔ (Contains (tuples_of es) u ⊎ (t ≡ u))) (sym a.1) (
-  λ c. inl c,
-  λ d. elim d [
-    | inl c ↦ c
-    | inr e ↦ subst (Contains (tuples_of es)) e a.0
-  ],
-)
-added_either es fs t n (inr a) u =
-    let names : tuples_of fs ≡ tuples_of es ++ t ∷ [] = ap tuples_of a.1 ∙ map_push (λ (e : TupleData × ℕ). e.0) es (t, n) in
-    subst (λ (x : List TupleData). Contains x u ↔ (Contains (tuples_of es) u ⊎ (t ≡ u))) (sym names) (
-      λ c. Contains-push_cases (tuples_of es) t u c,
-      λ d. elim d [
-        | inl c ↦ Contains-append_left (tuples_of es) (t ∷ []) u c
-        | inr e ↦ subst (Contains (tuples_of es ++ t ∷ [])) e (Contains-push (tuples_of es) t)
-      ],
-    )
 
 -- ---- the moves of a row
 -- The image under one of these moves isn't among the tuples.
@@ -46,18 +29,15 @@ pub record IsAbsentBy (tuples : List TupleData) (t : TupleData) (moves : List Mo
   pub is : u ≡ act t via
   pub absent : ¬ (Contains tuples u)
 
-abbrev pub FoundBy : List TupleData → TupleData → List Move → List (TupleData × ℕ) → List (TupleData × ℕ) → Type 0
-FoundBy tuples t moves es fs = (u : TupleData) → Contains (tuples_of fs) u ↔ (Contains (tuples_of es) u ⊎ IsAbsentBy tuples t moves u)
+abbrev pub FoundBy : List TupleData → TupleData → List Move → List TupleData → List TupleData → Type 0
+FoundBy tuples t moves es fs = (u : TupleData) → Contains fs u ↔ (Contains es u ⊎ IsAbsentBy tuples t moves u)
 
-none_listed : {X : Type 0} (x : X) → Contains [] x → ⊥
-none_listed x c = omega (arith, c.1)
-
-pub found_by_none : (tuples : List TupleData) (t : TupleData) (es : List (TupleData × ℕ)) → FoundBy tuples t [] es es
+pub found_by_none : (tuples : List TupleData) (t : TupleData) (es : List TupleData) → FoundBy tuples t [] es es
 found_by_none tuples t es u = (
   λ c. inl c,
   λ d. elim d [
     | inl c ↦ c
-    | inr a ↦ absurd (none_listed a.via a.listed)
+    | inr a ↦ absurd (contains_none a.via a.listed)
   ],
 )
 
@@ -71,7 +51,7 @@ by_last tuples t moves m u a = elim (Contains-push_cases moves m a.via a.listed)
 ]
 
 -- the image has a place
-pub found_by_kept : (tuples : List TupleData) (t : TupleData) (moves : List Move) (m : Move) (es fs : List (TupleData × ℕ)) → Contains tuples (act t m) → FoundBy tuples t moves es fs → FoundBy tuples t (moves ++ m ∷ []) es fs
+pub found_by_kept : (tuples : List TupleData) (t : TupleData) (moves : List Move) (m : Move) (es fs : List TupleData) → Contains tuples (act t m) → FoundBy tuples t moves es fs → FoundBy tuples t (moves ++ m ∷ []) es fs
 found_by_kept tuples t moves m es fs there f u = (
   λ c. elim ((f u).0 c) [
     | inl d ↦ inl d
@@ -87,10 +67,10 @@ found_by_kept tuples t moves m es fs there f u = (
 )
 
 -- the image has none, and is found
-pub found_by_more : (tuples : List TupleData) (t : TupleData) (moves : List Move) (m : Move) (es fs gs : List (TupleData × ℕ)) (n : ℕ) → ¬ (Contains tuples (act t m)) → IsAdded fs (act t m) n gs
+pub found_by_more : (tuples : List TupleData) (t : TupleData) (moves : List Move) (m : Move) (es fs gs : List TupleData) → ¬ (Contains tuples (act t m)) → IsAdded fs (act t m) gs
     → FoundBy tuples t moves es fs → FoundBy tuples t (moves ++ m ∷ []) es gs
-found_by_more tuples t moves m es fs gs n absent added f u =
-    let one : Contains (tuples_of gs) u ↔ (Contains (tuples_of fs) u ⊎ (act t m ≡ u)) = added_either fs gs (act t m) n added u in (
+found_by_more tuples t moves m es fs gs absent added f u =
+    let one : Contains gs u ↔ (Contains fs u ⊎ (act t m ≡ u)) = added_either fs gs (act t m) added u in (
       λ c. elim (one.0 c) [
         | inl d ↦ elim ((f u).0 d) [
           | inl e ↦ inl e
@@ -107,8 +87,8 @@ found_by_more tuples t moves m es fs gs n absent added f u =
       ],
     )
 
-pub found_by_all : (tuples : List TupleData) (t : TupleData) (moves : List Move) (es fs : List (TupleData × ℕ)) → AreLevelMoves t moves → FoundBy tuples t moves es fs
-    → (u : TupleData) → Contains (tuples_of fs) u ↔ (Contains (tuples_of es) u ⊎ IsAbsentImage tuples t u)
+pub found_by_all : (tuples : List TupleData) (t : TupleData) (moves : List Move) (es fs : List TupleData) → AreLevelMoves t moves → FoundBy tuples t moves es fs
+    → (u : TupleData) → Contains fs u ↔ (Contains es u ⊎ IsAbsentImage tuples t u)
 found_by_all tuples t moves es fs row f u = (
   λ c. elim ((f u).0 c) [
     | inl d ↦ inl d
@@ -128,11 +108,11 @@ pub record IsAbsentOf (tuples : List TupleData) (rows : List Row) (u : TupleData
   pub image : IsAbsentImage tuples (row_tuple row) u
 
 -- Those that were found are the root, if it has no place, and the images of these rows that have none.
-abbrev pub FoundOf : TupleData → List TupleData → List Row → List (TupleData × ℕ) → Type 0
-FoundOf root tuples rows fs = (u : TupleData) → Contains (tuples_of fs) u ↔ (((u ≡ root) × ¬ (Contains tuples u)) ⊎ IsAbsentOf tuples rows u)
+abbrev pub FoundOf : TupleData → List TupleData → List Row → List TupleData → Type 0
+FoundOf root tuples rows fs = (u : TupleData) → Contains fs u ↔ (((u ≡ root) × ¬ (Contains tuples u)) ⊎ IsAbsentOf tuples rows u)
 
-pub found_of_more : (root : TupleData) (tuples : List TupleData) (rows : List Row) (row : Row) (fs gs : List (TupleData × ℕ))
-    → ((u : TupleData) → Contains (tuples_of gs) u ↔ (Contains (tuples_of fs) u ⊎ IsAbsentImage tuples (row_tuple row) u)) → FoundOf root tuples rows fs → FoundOf root tuples (rows ++ row ∷ []) gs
+pub found_of_more : (root : TupleData) (tuples : List TupleData) (rows : List Row) (row : Row) (fs gs : List TupleData)
+    → ((u : TupleData) → Contains gs u ↔ (Contains fs u ⊎ IsAbsentImage tuples (row_tuple row) u)) → FoundOf root tuples rows fs → FoundOf root tuples (rows ++ row ∷ []) gs
 found_of_more root tuples rows row fs gs one f u = (
   λ c. elim ((one u).0 c) [
     | inl d ↦ elim ((f u).0 d) [
@@ -160,50 +140,37 @@ there_from tuples u None b absent g h = absurd (true≢false (sym (g ∙ ap not 
 there_from tuples u (Some v) b at g h = (v, slice_get_within tuples v u at, get_or_from_slice_get tuples v u u at)
 
 -- ---- the root
-pub found_of_start : (root : TupleData) (tuples : List TupleData) (fs : List (TupleData × ℕ)) → Contains tuples root → fs ≡ [] → FoundOf root tuples [] fs
+pub found_of_start : (root : TupleData) (tuples : List TupleData) (fs : List TupleData) → Contains tuples root → fs ≡ [] → FoundOf root tuples [] fs
 found_of_start root tuples fs there e u = (
-  λ c. absurd (none_listed u (subst (λ (x : List (TupleData × ℕ)). Contains (tuples_of x) u) e c)),
+  λ c. absurd (contains_none u (subst (λ (x : List TupleData). Contains x u) e c)),
   λ d. elim d [
     | inl a ↦ absurd (a.1 (subst (Contains tuples) (sym a.0) there))
-    | inr a ↦ absurd (none_listed a.row a.listed)
+    | inr a ↦ absurd (contains_none a.row a.listed)
   ],
 )
 
-pub found_of_root : (root : TupleData) (tuples : List TupleData) (es fs : List (TupleData × ℕ)) (n : ℕ) → ¬ (Contains tuples root) → es ≡ [] → IsAdded es root n fs → FoundOf root tuples [] fs
-found_of_root root tuples es fs n absent e added u =
-    let one : Contains (tuples_of fs) u ↔ (Contains (tuples_of es) u ⊎ (root ≡ u)) = added_either es fs root n added u in (
+pub found_of_root : (root : TupleData) (tuples : List TupleData) (es fs : List TupleData) → ¬ (Contains tuples root) → es ≡ [] → IsAdded es root fs → FoundOf root tuples [] fs
+found_of_root root tuples es fs absent e added u =
+    let one : Contains fs u ↔ (Contains es u ⊎ (root ≡ u)) = added_either es fs root added u in (
       λ c. elim (one.0 c) [
-        | inl d ↦ absurd (none_listed u (subst (λ (x : List (TupleData × ℕ)). Contains (tuples_of x) u) e d))
+        | inl d ↦ absurd (contains_none u (subst (λ (x : List TupleData). Contains x u) e d))
         | inr is ↦ inl (sym is, subst (λ (x : TupleData). ¬ (Contains tuples x)) is absent)
       ],
       λ d. elim d [
         | inl a ↦ one.1 (inr (sym a.0))
-        | inr a ↦ absurd (none_listed a.row a.listed)
+        | inr a ↦ absurd (contains_none a.row a.listed)
       ],
     )
 
 -- ---- rows and their tuples
-pub contains_map : {X Y : Type 0} (f : X → Y) (xs : List X) (y : Y) → Contains (map f xs) y → (x : X) × Contains xs x × (f x ≡ y)
-contains_map f [] y c = absurd (none_listed y c)
-contains_map f (x ∷ xs) y (zero, h, e) = (x, (0, omega arith, refl), e)
-contains_map f (x ∷ xs) y (suc k, h, e) =
-    let rest = contains_map f xs y (k, omega (arith, h), e) in
-    (rest.0, Contains-append_right (x ∷ []) xs rest.0 rest.1, rest.2)
+pub placed_has_row : (ts ps : List TupleData) (t : TupleData) → IsPlacing ts ps → Contains ps t → Contains ts t
+placed_has_row ts ps t p c = (p.same t).0 c
 
-pub map_contains : {X Y : Type 0} (f : X → Y) (xs : List X) (x : X) → Contains xs x → Contains (map f xs) (f x)
-map_contains f xs x c = (c.0, omega (arith, c.1, length-map xs f), get_or-map f xs c.0 x (f x) c.1 ∙ ap f c.2)
-
-pub placed_has_row : (ts : List TupleData) (ps : List (TupleData × ℕ)) (t : TupleData) → IsPlacing ts ps → Contains (tuples_of ps) t → Contains ts t
-placed_has_row ts ps t p c =
-    let e = contains_map (λ (x : TupleData × ℕ). x.0) ps t c in
-    let at : slice_get ts e.0.1 ≡ Some t = All-contains (λ (x : TupleData × ℕ). slice_get ts x.1 ≡ Some x.0) ps e.0 p.rows e.1 ∙ ap Some e.2 in
-    (e.0.1, slice_get_within ts e.0.1 t at, get_or_from_slice_get ts e.0.1 t t at)
-
-pub row_has_place : (ts : List TupleData) (ps : List (TupleData × ℕ)) (t : TupleData) → IsPlacing ts ps → Contains ts t → Contains (tuples_of ps) t
-row_has_place ts ps t p c = All-contains (Contains (tuples_of ps)) ts t p.all c
+pub row_has_place : (ts ps : List TupleData) (t : TupleData) → IsPlacing ts ps → Contains ts t → Contains ps t
+row_has_place ts ps t p c = (p.same t).1 c
 
 -- ---- what is missed
-pub missed_rows : (root : TupleData) (ts : List TupleData) (ps : List (TupleData × ℕ)) (u : TupleData) → IsPlacing ts ps → IsMissed root (tuples_of ps) u → IsMissed root ts u
+pub missed_rows : (root : TupleData) (ts : List TupleData) (ps : List TupleData) (u : TupleData) → IsPlacing ts ps → IsMissed root ps u → IsMissed root ts u
 missed_rows root ts ps u p m = record {
   wanted = elim m.wanted [
     | inl e ↦ inl e
@@ -212,19 +179,18 @@ missed_rows root ts ps u p m = record {
   absent = λ c. m.absent (row_has_place ts ps u p c);
 }
 
-pub missed_found : (root : TupleData) (rows : List Row) (ps fs gs : List (TupleData × ℕ)) (list : List TupleData) → IsPlacing (map row_tuple rows) ps → FoundOf root (tuples_of ps) rows fs → IsPermutation fs gs → list ≡ tuples_of gs
+pub missed_found : (root : TupleData) (rows : List Row) (ps fs gs : List TupleData) (list : List TupleData) → IsPlacing (map row_tuple rows) ps → FoundOf root ps rows fs → IsPermutation fs gs → list ≡ gs
     → (u : TupleData) → Contains list u ↔ IsMissed root (map row_tuple rows) u
 missed_found root rows ps fs gs list p f same is u =
-    let ts : List TupleData = map row_tuple rows in
-    let there : IsPermutation (tuples_of fs) (tuples_of gs) = IsPermutation-map (λ (x : TupleData × ℕ). x.0) fs gs same in (
-      λ c. elim ((f u).0 (Contains-permutation (tuples_of gs) (tuples_of fs) u (IsPermutation-sym (tuples_of fs) (tuples_of gs) there) (subst (λ (l : List TupleData). Contains l u) is c))) [
+    let ts : List TupleData = map row_tuple rows in (
+      λ c. elim ((f u).0 (Contains-permutation gs fs u (IsPermutation-sym fs gs same) (subst (λ (l : List TupleData). Contains l u) is c))) [
         | inl a ↦ record { wanted = inl a.0; absent = λ d. a.1 (row_has_place ts ps u p d) }
         | inr a ↦ record {
           wanted = inr (record { from = row_tuple a.row; via = a.image.via; listed = map_contains row_tuple rows a.row a.listed; moves = a.image.moves; is = a.image.is });
           absent = λ d. a.image.absent (row_has_place ts ps u p d);
         }
       ],
-      λ m. subst (λ (l : List TupleData). Contains l u) (sym is) (Contains-permutation (tuples_of fs) (tuples_of gs) u there ((f u).1 (elim m.wanted [
+      λ m. subst (λ (l : List TupleData). Contains l u) (sym is) (Contains-permutation fs gs u same ((f u).1 (elim m.wanted [
         | inl e ↦ inl (e, λ d. m.absent (placed_has_row ts ps u p d))
         | inr i ↦ (
             let r = contains_map row_tuple rows i.from i.listed in
@@ -242,21 +208,18 @@ missed_found root rows ps fs gs list p f same is u =
     )
 
 pub not_empty : (xs : List Tuple) (u : TupleData) → Contains (map (λ (t : Tuple). t.plain) xs) u → xs ≢ []
-not_empty xs u c e = none_listed u (subst (λ (l : List Tuple). Contains (map (λ (t : Tuple). t.plain) l) u) e c)
+not_empty xs u c e = contains_none u (subst (λ (l : List Tuple). Contains (map (λ (t : Tuple). t.plain) l) u) e c)
 
-pub within_level : (root : TupleData) (rows : List Row) (ps : List (TupleData × ℕ)) → IsPlacing (map row_tuple rows) ps → All (λ r. InLevel root (row_tuple r)) rows → All (InLevel root) (tuples_of ps)
+pub within_level : (root : TupleData) (rows : List Row) (ps : List TupleData) → IsPlacing (map row_tuple rows) ps → All (λ r. InLevel root (row_tuple r)) rows → All (InLevel root) ps
 within_level root rows ps p all = λ k d h.
-    let r = contains_map row_tuple rows (get_or (tuples_of ps) k d) (placed_has_row (map row_tuple rows) ps (get_or (tuples_of ps) k d) p (Contains-get_or (tuples_of ps) k d h)) in
+    let r = contains_map row_tuple rows (get_or ps k d) (placed_has_row (map row_tuple rows) ps (get_or ps k d) p (Contains-get_or ps k d h)) in
     subst (InLevel root) r.2 (All-contains (λ x. InLevel root (row_tuple x)) rows r.0 all r.1)
 
 -- ---- what sealing answers
-pub closed_of : (root : TupleData) (rows : List Row) (ps : List (TupleData × ℕ)) (own : Tuple) (tuples : List Tuple) (parents : Parents) → root.rank ≤ 6 → IsPlacing (map row_tuple rows) ps
-    → own.plain ≡ root → map (λ (t : Tuple). t.plain) tuples ≡ tuples_of ps → IsLevel root (tuples_of ps) × AreParents root (tuples_of ps) parents
-    → IsClosed (record { root = own.plain; tuples = map (λ (t : Tuple). t.plain) tuples; parents = parents }) × (own.plain ≡ root)
-    × ((t : TupleData) → Contains (map (λ (u : Tuple). u.plain) tuples) t ↔ Contains (map row_tuple rows) t)
-closed_of root rows ps own tuples parents rank p is copied both = (
-  subst (λ (r : TupleData). IsClosed (record { root = r; tuples = map (λ (t : Tuple). t.plain) tuples; parents = parents })) (sym is)
-      (subst (λ (ts : List TupleData). IsClosed (record { root = root; tuples = ts; parents = parents })) (sym copied) (record { rank = rank; level = both.0; parents = both.1 })),
+pub closed_of : (root : TupleData) (rows : List Row) (ps : List TupleData) (level : LevelData) → IsPlacing (map row_tuple rows) ps → IsClosedLevel level → level.root ≡ root → level.tuples ≡ ps
+    → IsClosedLevel level × (level.root ≡ root) × ((t : TupleData) → Contains level.tuples t ↔ Contains (map row_tuple rows) t)
+closed_of root rows ps level p closed is copied = (
+  closed,
   is,
   λ t. (
     λ c. placed_has_row (map row_tuple rows) ps t p (subst (λ (ts : List TupleData). Contains ts t) copied c),
@@ -264,7 +227,7 @@ closed_of root rows ps own tuples parents rank p is copied both = (
   ),
 )
 
-pub missing_of : (root : TupleData) (rows : List Row) (ps : List (TupleData × ℕ)) (list : List Tuple) → IsPlacing (map row_tuple rows) ps → IsStrictlySortedBy tuple_cmp (map (λ (t : Tuple). t.plain) list)
-    → ((t : TupleData) → Contains (map (λ (u : Tuple). u.plain) list) t ↔ IsMissed root (map row_tuple rows) t) → (t : TupleData) × IsMissed root (tuples_of ps) t
+pub missing_of : (root : TupleData) (rows : List Row) (ps : List TupleData) (list : List Tuple) → IsPlacing (map row_tuple rows) ps → IsStrictlySortedBy tuple_cmp (map (λ (t : Tuple). t.plain) list)
+    → ((t : TupleData) → Contains (map (λ (u : Tuple). u.plain) list) t ↔ IsMissed root (map row_tuple rows) t) → (t : TupleData) × IsMissed root ps t
     → IsStrictlySortedBy tuple_cmp (map (λ (t : Tuple). t.plain) list) × (list ≢ []) × ((t : TupleData) → Contains (map (λ (u : Tuple). u.plain) list) t ↔ IsMissed root (map row_tuple rows) t)
 missing_of root rows ps list p sorted exact some = (sorted, not_empty list some.0 ((exact some.0).1 (missed_rows root (map row_tuple rows) ps some.0 p some.1)), exact)

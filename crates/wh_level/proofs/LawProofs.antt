@@ -1,20 +1,21 @@
 -- The laws of levels.
-use Rattle.std.proofs.Common.{◌≡◌, ◌⊎◌, zero, suc, ◌≤◌, true, false, List, [], ◌∷◌, length, Contains, refl, sym, ap, ◌∙◌, subst, arith, inl, inr}
+use Rattle.std.proofs.Common.{◌≡◌, ◌≤◌, false, List, [], ◌∷◌, length, Contains, refl, sym, ap, ◌∙◌, subst, arith, inl, inr}
 use Rattle.std.proofs.lemmas.Bool.{true≢false}
 use Rattle.std.proofs.lemmas.Cmp.{eq_by_cmp_equiv}
-use Rattle.std.proofs.lemmas.List.Elements.{All-contains, Contains-append_right}
+use Rattle.std.proofs.lemmas.List.Elements.{All-contains}
 use Rattle.std.proofs.lemmas.Map.Keys.{sorted_tail}
-use Rattle.std.proofs.lemmas.Map.Views.{All-after_first, Contains-from_any, list_any-from_Contains, tells_apart}
+use Rattle.std.proofs.lemmas.Map.Views.{All-after_first, Contains-from_any, list_any-from_Contains}
 use Rattle.std.proofs.lemmas.Map.Made.{length-le_from_is_member}
-use Rattle.std.specs.Cmp.{IsTotalOrder, on_total, then_total, nat_cmp_total}
-use Rattle.std.specs.Cmp.Lexicographic.{slice_cmp, lists_total, nat_list_cmp_total}
+use Rattle.std.specs.Cmp.{IsTotalOrder}
+use Rattle.std.specs.Cmp.Lexicographic.{slice_cmp, lists_total}
 use Rattle.std.specs.List.{IsDistinct}
 use Rattle.std.specs.List.Sorted.{IsStrictlySortedBy}
 use Rattle.std.specs.Ordering.{is_lt, is_gt, eq_by_cmp, ordering_reverse}
 use Rattle.std.specs.declared.cmp.Ordering.{Ordering}
 use Rattle.std.specs.declared.cmp.Ordering.TheVariants.{Less, Equal, Greater}
 use Rattle.wh_words.specs.Tuples.{TupleData, IsTuple, tuple_cmp}
-use Rattle.wh_words.specs.TupleTies.{same_from_tied}
+use Rattle.wh_words.proofs.Elements.{contains_none, contains_first, contains_later, contains_cases}
+use Rattle.wh_words.proofs.SameTuples.{tuple_cmp_total, tied}
 use Rattle.wh_words.specs.Moves.{Move, move_cmp}
 use Rattle.wh_words.specs.Action.{act, act_all}
 use Rattle.wh_words.specs.Levels.{Reaches, InLevel}
@@ -23,26 +24,10 @@ use Rattle.wh_words.proofs.ImageLetters.{act_tuple}
 use Rattle.wh_moves.proofs.IdentityCuts.{identity_acts, identity_or_not}
 use Rattle.wh_level.specs.Laws.{KeepsLength, LevelIsWhatIsReached, LevelIsUnique, LimitIsExact, FirstWalkIsUnique}
 use Rattle.wh_level.specs.Laws.KeepsLength.{done as kept_done, step as kept_step}
-use Rattle.wh_level.proofs.Shortlex.{move_cmp_total, same_moves}
-
--- ---- the order of tuples
-pub tuple_cmp_total : IsTotalOrder tuple_cmp
-tuple_cmp_total = then_total (on_total (λ (t : TupleData). t.rank) nat_cmp_total) (on_total (λ (t : TupleData). t.words) (lists_total nat_list_cmp_total))
+use Rattle.wh_moves.specs.MoveOrders.{move_cmp_total}
+use Rattle.wh_level.proofs.Shortlex.{same_moves}
 
 -- ---- sorted lists with the same elements
-contains_cases : {X : Type 0} (x : X) (xs : List X) (z : X) → Contains (x ∷ xs) z → (x ≡ z) ⊎ Contains xs z
-contains_cases x xs z (zero, h, e) = inl e
-contains_cases x xs z (suc k, h, e) = inr (k, omega (arith, h), e)
-
-contains_first : {X : Type 0} (x : X) (xs : List X) → Contains (x ∷ xs) x
-contains_first x xs = (0, omega arith, refl)
-
-contains_later : {X : Type 0} (x : X) (xs : List X) (z : X) → Contains xs z → Contains (x ∷ xs) z
-contains_later x xs z c = Contains-append_right (x ∷ []) xs z c
-
-contains_none : {X : Type 0} (z : X) → Contains [] z → ⊥
-contains_none z c = omega (arith, c.1)
-
 less_twice : {K : Type 0} {R : K → K → Ordering} (o : IsTotalOrder R) (x y : K) → R x y ≡ Less → R y x ≡ Less → ⊥
 less_twice o x y h k = true≢false (ap is_lt (sym h ∙ o.antisymm x y ∙ ap ordering_reverse k))
 
@@ -91,9 +76,6 @@ first_walk_unique root t ms ns p q =
     same_moves ms ns (gt_flipped (slice_cmp move_cmp ms ns) (slice_cmp move_cmp ns ms) ((lists_total move_cmp_total).antisymm ms ns) (p.first ns q.leads e) (q.first ms p.leads (sym e)))
 
 -- ---- more than a limit
-pub tied : (s t : TupleData) → eq_by_cmp tuple_cmp s t ≡ true → s ≡ t
-tied = tells_apart same_from_tied
-
 pub no_more : (ts us : List TupleData) → IsDistinct (eq_by_cmp tuple_cmp) us → ((t : TupleData) → Contains us t → Contains ts t) → length us ≤ length ts
 no_more ts us d within =
     length-le_from_is_member (eq_by_cmp_equiv tuple_cmp_total) us ts d
@@ -120,10 +102,9 @@ in_level_from_kept {t} is (kept_step {m = m} {ms = ms} valid rank kept rest) =
     ]
 
 pub level_reached : LevelIsWhatIsReached
-level_reached root ts t is l = (
-  λ c.
-      let r : InLevel root t = (l.exact t).0 c in
+level_reached root t is = (
+  λ r.
       let both : KeepsLength root r.0 × (act_all root r.0 ≡ t) = kept_from_reaches r.1 in
       record { moves = r.0; keeps = both.0; leads = both.1 },
-  λ r. (l.exact t).1 (subst (InLevel root) r.leads (in_level_from_kept is r.keeps)),
+  λ r. subst (InLevel root) r.leads (in_level_from_kept is r.keeps),
 )

@@ -5,7 +5,6 @@ pub mod LawProofs
 pub mod Cells
 pub mod Stops
 pub mod SearchEnds
-pub mod Entries
 pub mod Expanding
 pub mod Placings
 pub mod Rooms

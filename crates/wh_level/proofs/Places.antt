@@ -1,5 +1,5 @@
 -- Where a tuple stands among sorted tuples, for `Level::place`.
-use Rattle.std.proofs.Common.{◌≡◌, ℕ, ◌+◌, ◌<◌, ◌≤◌, List, length, map, get_or, refl, sym, ap, ◌∙◌, subst, arith, Option, Some, Result, Ok, Err, false, ⊎_elim, ◌⊎◌, inl, inr}
+use Rattle.std.proofs.Common.{◌≡◌, ℕ, ◌+◌, ◌<◌, ◌≤◌, List, length, get_or, refl, sym, ap, ◌∙◌, subst, arith, Option, Some, Result, Ok, Err, false, ⊎_elim, ◌⊎◌, inl, inr}
 use Rattle.std.specs.Prelude.{slice_get, Contains, MatchOption, MatchResult}
 use Rattle.std.specs.Result.{result_ok}
 use Rattle.std.specs.List.Sorted.{IsStrictlySortedBy, IsSortedBy, IsSearchInRange, IsBinarySearchResult}
@@ -9,25 +9,18 @@ use Rattle.std.specs.declared.cmp.Ordering.{Ordering}
 use Rattle.std.specs.declared.cmp.Ordering.TheVariants.{Less, Equal, Greater}
 use Rattle.std.proofs.lemmas.Bool.{true≢false, cases_order}
 use Rattle.std.proofs.lemmas.Option.{slice_get-get_or}
-use Rattle.std.proofs.lemmas.List.{get_or-map, length-map}
+use Rattle.std.proofs.lemmas.List.{length-map}
 use Rattle.std.proofs.lemmas.List.Sorted.{searchable_from_sorted}
 use Rattle.std.proofs.lemmas.Map.Keys.{Less-from_sorted}
-use Rattle.wh_words.specs.Tuples.{TupleData, Tuple, tuple_cmp, tuple_order, tuple_order_total}
+use Rattle.wh_words.specs.Tuples.{Tuple, tuple_cmp, tuple_order, tuple_order_total}
 use Rattle.wh_words.specs.TupleTies.{same_from_tied}
 use Rattle.wh_words.specs.Levels.{InLevel}
 use Rattle.wh_words.proofs.SameTuples.{tied_with_itself}
-use Rattle.wh_level.specs.Trees.{LevelData, IsClosed}
-
--- The data of tuples.
-abbrev pub plains : List Tuple → List TupleData
-plains ts = map (λ t. t.plain) ts
+use Rattle.wh_sets.proofs.SetLists.{plains, plain_at}
+use Rattle.wh_level.specs.Trees.{LevelData, IsClosedLevel}
 
 plains_length : (ts : List Tuple) → length (plains ts) ≡ length ts
 plains_length ts = length-map ts (λ (t : Tuple). t.plain)
-
--- What stands at a place among the data is the data of what stands there.
-pub plain_at : (ts : List Tuple) (k : ℕ) (d : Tuple) (e : TupleData) → k < length ts → get_or (plains ts) k e ≡ (get_or ts k d).plain
-plain_at ts k d e l = get_or-map (λ (t : Tuple). t.plain) ts k d e l
 
 cases_order_le : (a b : ℕ) → (a ≤ b) ⊎ (b < a)
 cases_order_le a b = ⊎_elim (λ e. inl (omega arith)) (λ r. ⊎_elim (λ l. inl (omega arith)) (λ l. inr l) r) (cases_order a b)
@@ -61,7 +54,7 @@ searched ts t (Err i) s l h = λ found.
     (cases_order_le i found.0)
 
 -- The place of a tuple in a closed level, and none where it isn't in it.
-pub placed : (l : LevelData) (ts : List Tuple) (t : Tuple) (r : Result ℕ ℕ) (o : Option ℕ) → IsClosed l → l.tuples ≡ plains ts → IsSearchInRange r (length ts) → IsBinarySearchResult (λ y. tuple_order y t) ts r →
+pub placed : (l : LevelData) (ts : List Tuple) (t : Tuple) (r : Result ℕ ℕ) (o : Option ℕ) → IsClosedLevel l → l.tuples ≡ plains ts → IsSearchInRange r (length ts) → IsBinarySearchResult (λ y. tuple_order y t) ts r →
     o ≡ result_ok r → MatchOption o (¬ (InLevel l.root t.plain)) (λ v. slice_get l.tuples v ≡ Some t.plain)
 placed l ts t (Ok v) o closed e range search f =
     subst (λ (p : Option ℕ). MatchOption p (¬ (InLevel l.root t.plain)) (λ v. slice_get l.tuples v ≡ Some t.plain)) (sym f)

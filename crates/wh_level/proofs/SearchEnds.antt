@@ -17,7 +17,8 @@ use Rattle.wh_level.specs.Trees.LeadsBack.{root as back_at_root, step as back_st
 use Rattle.wh_level.specs.Searches.{SearchData, started, Stop, NoLater, Earlier, HasParent, IsStop, IsFollowed, AllEarlier, IsKnown, IsSearched}
 use Rattle.wh_level.specs.Searches.HasParent.{none, some}
 use Rattle.wh_level.proofs.Cells.{slice_get_set_same, slice_get_set_other, slice_get_replicate, count_unseen_set, count_unseen_all}
-use Rattle.wh_level.proofs.LawProofs.{tuple_cmp_total, less_itself}
+use Rattle.wh_words.proofs.SameTuples.{tuple_cmp_total}
+use Rattle.wh_level.proofs.LawProofs.{less_itself}
 use Rattle.wh_level.proofs.Shortlex.{no_later_itself, earlier_when_shorter}
 use Rattle.wh_level.proofs.Stops.{IsUnderway, below_cases}
 use Rattle.wh_level.proofs.Walks.{IsArrived, IsWhole, arrives, first_from, reached_itself}
@@ -136,7 +137,7 @@ module _ {root : TupleData} {tuples : List TupleData} {s : SearchData} {at v : �
   }
 
 -- ---- the end
-same_places : (tuples : List TupleData) (v w : ℕ) (t : TupleData) → IsStrictlySortedBy tuple_cmp tuples → slice_get tuples v ≡ Some t → slice_get tuples w ≡ Some t → v ≡ w
+pub same_places : (tuples : List TupleData) (v w : ℕ) (t : TupleData) → IsStrictlySortedBy tuple_cmp tuples → slice_get tuples v ≡ Some t → slice_get tuples w ≡ Some t → v ≡ w
 same_places tuples v w t sorted h k = elim (cases_lt v w) [
   | inl l ↦ absurd (less_at v w h k l)
   | inr l ↦ elim (cases_lt w v) [

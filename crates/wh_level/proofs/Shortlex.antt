@@ -1,78 +1,26 @@
 -- Walks in their order: by length, and then move by move.
-use Rattle.std.proofs.Common.{◌≡◌, ℕ, ◌+◌, ◌<◌, ◌≤◌, false, List, [], ◌∷◌, ◌++◌, length, refl, sym, ap, ◌∙◌, subst, arith}
+use Rattle.std.proofs.Common.{◌≡◌, ℕ, ◌+◌, ◌<◌, ◌≤◌, false, List, [], ◌∷◌, ◌++◌, length, refl, sym, ap, ◌∙◌, arith}
 use Rattle.std.proofs.lemmas.Bool.{true≢false}
 use Rattle.std.proofs.lemmas.Cmp.{upto, tied_itself, ranked}
 use Rattle.std.proofs.lemmas.List.{length_push}
-use Rattle.std.specs.Cmp.{IsTotalOrder, on_total, then_total, nat_cmp_total}
-use Rattle.std.specs.Cmp.Lexicographic.{slice_cmp, nat_list_cmp_total, lists_total}
+use Rattle.std.specs.Cmp.{IsTotalOrder, on_total, then_total, nat_cmp_total, nat_cmp_is}
+use Rattle.std.specs.Cmp.Lexicographic.{slice_cmp, lists_total}
 use Rattle.std.specs.FinMap.{nat_cmp-IsAntisymmetric, slice_cmp-IsAntisymmetric}
-use Rattle.std.specs.Ordering.{is_lt, is_gt, nat_cmp, ordering_then, MatchOrdering}
+use Rattle.std.specs.Ordering.{is_gt, nat_cmp, ordering_then, MatchOrdering}
 use Rattle.std.specs.declared.cmp.Ordering.{Ordering}
 use Rattle.std.specs.declared.cmp.Ordering.TheVariants.{Less, Equal, Greater}
-use Rattle.wh_words.specs.Moves.{Kind, Move, kind_cmp, move_cmp}
-use Rattle.wh_words.specs.Moves.Kind.{swap, invert, cut}
+use Rattle.wh_words.specs.Moves.{Move, move_cmp}
+use Rattle.wh_moves.specs.MoveOrders.{move_cmp_total, same_move, then_nothing}
 use Rattle.wh_level.specs.Searches.{walk_cmp, NoLater, Earlier}
 
--- ---- the order of moves is total
-then_nothing : (o : Ordering) → ordering_then o Equal ≡ o
-then_nothing Less = refl
-then_nothing Equal = refl
-then_nothing Greater = refl
-
+-- ---- the order of walks is total
 then_assoc : (a b c : Ordering) → ordering_then a (ordering_then b c) ≡ ordering_then (ordering_then a b) c
 then_assoc Less b c = refl
 then_assoc Equal b c = refl
 then_assoc Greater b c = refl
 
-kind_code : Kind → List ℕ
-kind_code (swap k) = 0 ∷ k ∷ []
-kind_code (invert k) = 1 ∷ k ∷ []
-kind_code (cut a set) = 2 ∷ a ∷ set ∷ []
-
-coded_kinds : (k l : Kind) → slice_cmp nat_cmp (kind_code k) (kind_code l) ≡ kind_cmp k l
-unfolding kind_code
-coded_kinds (swap j) (swap k) = then_nothing (nat_cmp j k)
-coded_kinds (swap j) (invert k) = refl
-coded_kinds (swap j) (cut b t) = refl
-coded_kinds (invert j) (swap k) = refl
-coded_kinds (invert j) (invert k) = then_nothing (nat_cmp j k)
-coded_kinds (invert j) (cut b t) = refl
-coded_kinds (cut a s) (swap k) = refl
-coded_kinds (cut a s) (invert k) = refl
-coded_kinds (cut a s) (cut b t) = ap (ordering_then (nat_cmp a b)) (then_nothing (nat_cmp s t))
-
-pub kind_cmp_total : IsTotalOrder kind_cmp
-kind_cmp_total = subst (λ (R : Kind → Kind → Ordering). IsTotalOrder R) (λ i k l. coded_kinds k l i) (on_total kind_code nat_list_cmp_total)
-
-pub move_cmp_total : IsTotalOrder move_cmp
-move_cmp_total = then_total (on_total (λ (m : Move). m.rank) nat_cmp_total) (on_total (λ (m : Move). m.kind) kind_cmp_total)
-
 pub walk_cmp_total : IsTotalOrder walk_cmp
 walk_cmp_total = then_total (on_total (λ (p : List Move). length p) nat_cmp_total) (lists_total move_cmp_total)
-
-then_equal : (o p : Ordering) → ordering_then o p ≡ Equal → (o ≡ Equal) × (p ≡ Equal)
-then_equal Less p e = absurd (true≢false (ap is_lt e))
-then_equal Equal p e = (refl, e)
-then_equal Greater p e = absurd (true≢false (ap is_gt e))
-
-same_kind : (k l : Kind) → kind_cmp k l ≡ Equal → k ≡ l
-same_kind (swap j) (swap k) e = ap swap (nat_cmp-IsAntisymmetric j k e)
-same_kind (swap j) (invert k) e = absurd (true≢false (ap is_lt e))
-same_kind (swap j) (cut b t) e = absurd (true≢false (ap is_lt e))
-same_kind (invert j) (swap k) e = absurd (true≢false (ap is_gt e))
-same_kind (invert j) (invert k) e = ap invert (nat_cmp-IsAntisymmetric j k e)
-same_kind (invert j) (cut b t) e = absurd (true≢false (ap is_lt e))
-same_kind (cut a s) (swap k) e = absurd (true≢false (ap is_gt e))
-same_kind (cut a s) (invert k) e = absurd (true≢false (ap is_gt e))
-same_kind (cut a s) (cut b t) e =
-    let both : (nat_cmp a b ≡ Equal) × (nat_cmp s t ≡ Equal) = then_equal (nat_cmp a b) (nat_cmp s t) e in
-    ap (λ x. cut x s) (nat_cmp-IsAntisymmetric a b both.0) ∙ ap (cut b) (nat_cmp-IsAntisymmetric s t both.1)
-
-pub same_move : (m n : Move) → move_cmp m n ≡ Equal → m ≡ n
-same_move m n e =
-    let both : (nat_cmp m.rank n.rank ≡ Equal) × (kind_cmp m.kind n.kind ≡ Equal) = then_equal (nat_cmp m.rank n.rank) (kind_cmp m.kind n.kind) e in
-    ap (λ (r : ℕ). record { rank = r; kind = m.kind }) (nat_cmp-IsAntisymmetric m.rank n.rank both.0)
-    ∙ ap (λ (k : Kind). record { rank = n.rank; kind = k }) (same_kind m.kind n.kind both.1)
 
 pub same_moves : (p q : List Move) → slice_cmp move_cmp p q ≡ Equal → p ≡ q
 same_moves = slice_cmp-IsAntisymmetric same_move
@@ -132,11 +80,8 @@ earlier_pushed {p} {q} m n h = record { holds = pushed p q m n ∙ ap (λ o. ord
 pub earlier_by_move : (p : List Move) (m n : Move) → move_cmp m n ≡ Less → Earlier (p ++ m ∷ []) (p ++ n ∷ [])
 earlier_by_move p m n h = record { holds = pushed p p m n ∙ ap (λ o. ordering_then o (move_cmp m n)) (tied_itself walk_cmp_total p) ∙ h }
 
-less_when_below : (a b : ℕ) → a < b → nat_cmp a b ≡ Less
-less_when_below a b h = grind arith
-
 pub earlier_when_shorter : (p q : List Move) → length p < length q → Earlier p q
-earlier_when_shorter p q h = record { holds = ap (λ o. ordering_then o (slice_cmp move_cmp p q)) (less_when_below (length p) (length q) h) }
+earlier_when_shorter p q h = record { holds = ap (λ o. ordering_then o (slice_cmp move_cmp p q)) (sym (nat_cmp_is (length p) (length q) Less h)) }
 
 -- ---- what it says
 not_longer : (o p : Ordering) (a b : ℕ) → MatchOrdering o (a < b) (a ≡ b) (b < a) → is_gt (ordering_then o p) ≡ false → a ≤ b

@@ -1,9 +1,9 @@
 -- What a level is, as statements that contracts name, after Lyndon and Schupp, I.4.
-use Rattle.std.specs.Prelude.{◌≡◌, ℕ, ◌≤◌, List, [], ◌∷◌, length, Contains, ◌↔◌}
+use Rattle.std.specs.Prelude.{◌≡◌, ℕ, ◌≤◌, List, [], ◌∷◌, length, ◌↔◌}
 use Rattle.wh_words.specs.Tuples.{TupleData, IsTuple, tuple_length}
 use Rattle.wh_words.specs.Moves.{Move, IsMove}
 use Rattle.wh_words.specs.Action.{act, act_all}
-use Rattle.wh_words.specs.Levels.{IsLevel, IsFirstWalk, HasMoreThan}
+use Rattle.wh_words.specs.Levels.{InLevel, IsLevel, IsFirstWalk, HasMoreThan}
 
 -- Each move of the list is one of the rank and keeps the length of the tuple that it acts on. Identity cuts may be among them.
 pub data KeepsLength : TupleData → List Move → Type 0 where
@@ -16,9 +16,9 @@ pub record IsReached (root t : TupleData) : Type 0 where
   pub keeps : KeepsLength root moves
   pub leads : act_all root moves ≡ t
 
--- A level has every tuple that some list of moves that keep the length leads to from its root, and nothing else.
+-- The level of a tuple has every tuple that some list of moves that keep the length leads to from it, and nothing else.
 abbrev pub LevelIsWhatIsReached : Type 0
-LevelIsWhatIsReached = (root : TupleData) (ts : List TupleData) (t : TupleData) → IsTuple root → IsLevel root ts → Contains ts t ↔ IsReached root t
+LevelIsWhatIsReached = (root t : TupleData) → IsTuple root → InLevel root t ↔ IsReached root t
 
 -- A root has one level.
 abbrev pub LevelIsUnique : Type 0

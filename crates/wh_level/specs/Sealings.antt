@@ -5,7 +5,7 @@ use Rattle.wh_words.specs.Tuples.{TupleData, tuple_cmp}
 use Rattle.wh_words.specs.Moves.{Move}
 use Rattle.wh_words.specs.Action.{act}
 use Rattle.wh_words.specs.Levels.{IsLevelMove}
-use Rattle.wh_level.specs.Trees.{IsClosed}
+use Rattle.wh_level.specs.Trees.{IsClosedLevel}
 use Rattle.wh_level.specs.declared.sealing.Sealed.{Sealed}
 use Rattle.wh_level.specs.declared.sealing.Sealed.TheVariants.{Closed, Missing}
 
@@ -24,6 +24,6 @@ pub record IsMissed (root : TupleData) (ts : List TupleData) (t : TupleData) : T
 
 -- What sealing these tuples answers: the level of the root where they are just that, and else, in order and each once, the tuples that they miss, of which there are some.
 abbrev pub Seals : TupleData → List TupleData → Sealed → Type 0
-Seals root ts (Closed level) = IsClosed level × (level.root ≡ root) × ((t : TupleData) → Contains level.tuples t ↔ Contains ts t)
+Seals root ts (Closed level) = IsClosedLevel level × (level.root ≡ root) × ((t : TupleData) → Contains level.tuples t ↔ Contains ts t)
 Seals root ts (Missing list) =
     IsStrictlySortedBy tuple_cmp (map (λ t. t.plain) list) × (list ≢ []) × ((t : TupleData) → Contains (map (λ u. u.plain) list) t ↔ IsMissed root ts t)

@@ -1,5 +1,6 @@
 -- The tree of first walks of a level: each tuple but the root has a parent and a move that leads from it.
 use Rattle.std.specs.Prelude.{◌≡◌, ℕ, ◌<◌, ◌≤◌, List, [], ◌∷◌, length, reverse, Option, Some, None, slice_get, ◌↔◌}
+use Rattle.wh_words.specs.Limits.{most_level_rank}
 use Rattle.wh_words.specs.Tuples.{TupleData}
 use Rattle.wh_words.specs.Moves.{Move}
 use Rattle.wh_words.specs.Levels.{IsLevel, IsFirstWalk}
@@ -33,7 +34,7 @@ pub record LevelData : Type 0 where
   pub parents : Parents
 
 -- The tuples are the level of the root, whose rank is at most 6, and the parents are theirs.
-pub record IsClosed (l : LevelData) : Type 0 where
-  pub rank : l.root.rank ≤ 6
+pub record IsClosedLevel (l : LevelData) : Type 0 where
+  pub rank : l.root.rank ≤ most_level_rank
   pub level : IsLevel l.root l.tuples
   pub parents : AreParents l.root l.tuples l.parents

@@ -1,8 +1,8 @@
 //! What levels and first walks are, as laws about their definitions. Each function stands for its clauses and does nothing.
 ghost use Rattle.wh_level.specs.Laws.{LevelIsWhatIsReached, LevelIsUnique, LimitIsExact, FirstWalkIsUnique};
 
-/// A level has what moves that keep the length reach, a root has one level, and a level that has more tuples than a limit
-/// isn't within it.
+/// The level of a tuple is what lists of moves that keep the length reach from it, identity cuts among them or not; a root
+/// has one level; and a level that has more tuples than a limit isn't within it.
 pub fn level()
     ensures reached { LevelIsWhatIsReached }
     ensures unique { LevelIsUnique }

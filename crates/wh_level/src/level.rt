@@ -1,7 +1,7 @@
 //! Levels, and the tree of their first walks.
 ghost use Rattle.std.specs.Prelude.{◌≡◌, ◌<◌, length, map, Some, slice_get, MatchOption};
 ghost use Rattle.wh_words.specs.Levels.{InLevel};
-ghost use Rattle.wh_level.specs.Trees.{IsClosed};
+ghost use Rattle.wh_level.specs.Trees.{IsClosedLevel};
 
 use std::marker::Model;
 use wh_moves::Move;
@@ -24,14 +24,14 @@ impl Model for Level {
 
     ghost view = { λ l. record { root = l.root.plain; tuples = map (λ t. t.plain) l.tuples.items; parents = l.parents.items } };
 
-    ghost invariant = { λ l. spec.IsClosed (record { root = l.root.plain; tuples = map (λ t. t.plain) l.tuples.items; parents = l.parents.items }) };
+    ghost invariant = { λ l. spec.IsClosedLevel (record { root = l.root.plain; tuples = map (λ t. t.plain) l.tuples.items; parents = l.parents.items }) };
 }
 
 impl Level {
     /// The tuple that the level is reached from.
     pub fn root(&self) -> &Tuple
         ensures root { result.now.plain ≡ self.now.root }
-        ensures closed { IsClosed self.now }
+        ensures closed { IsClosedLevel self.now }
     {
         &self.root
     }
@@ -39,7 +39,7 @@ impl Level {
     /// The tuples, in order.
     pub fn tuples(&self) -> &[Tuple]
         ensures tuples { map (λ t. t.plain) result.now ≡ self.now.tuples }
-        ensures closed { IsClosed self.now }
+        ensures closed { IsClosedLevel self.now }
     {
         self.tuples.as_slice()
     }
@@ -49,7 +49,7 @@ impl Level {
     pub fn parent(&self, place: usize) -> Option<(usize, Move)>
         requires { place < length self.now.tuples }
         ensures parent { slice_get self.now.parents place ≡ Some result }
-        ensures closed { IsClosed self.now }
+        ensures closed { IsClosedLevel self.now }
     {
         self.parents[place]
     }
@@ -57,7 +57,7 @@ impl Level {
     /// The place of a tuple, counted from 0. None exactly where it isn't in the level.
     pub fn place(&self, tuple: &Tuple) -> Option<usize>
         ensures place { MatchOption result (¬ (InLevel self.now.root tuple.now.plain)) (λ v. slice_get self.now.tuples v ≡ Some tuple.now.plain) }
-        ensures closed { IsClosed self.now }
+        ensures closed { IsClosedLevel self.now }
     {
         self.tuples.binary_search(tuple).ok()
     }

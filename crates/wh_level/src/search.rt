@@ -8,15 +8,16 @@ ghost use Rattle.wh_words.specs.Levels.{InLevel, IsLevel};
 ghost use Rattle.wh_expand.specs.Rows.{IsRow, row_tuple};
 ghost use Rattle.wh_level.specs.Trees.{AreParents};
 ghost use Rattle.wh_level.specs.Sealings.{IsMissed};
-ghost use Rattle.wh_level.specs.PlacedTuples.{tuples_of, IsOrderedPlacing, HasRoomsFor, KeepsRooms};
+ghost use Rattle.wh_level.specs.PlacedTuples.{IsPlacing, HasRoomsFor, KeepsRooms};
 ghost use Rattle.wh_level.specs.Searches as spec;
 ghost use Rattle.wh_level.specs.Searches.{HasCells, GoesOver, IsAbsentImage};
 
-use crate::placing::{Places, image_place};
+use crate::placing::{image_place, row_numbers};
 use std::alloc::Global;
 use std::marker::Model;
 use wh_expand::Row;
 use wh_moves::Move;
+use wh_sets::TupleSet;
 use wh_words::{OutOfMemory, Tuple};
 
 /// What the search knows: for each place its parent and whether it was found, and the places that were found, in order.
@@ -76,17 +77,17 @@ impl Search {
     /// Follows all moves of the row of a place. False comes where an image has no place.
     fn expand(
         &mut self,
-        places: &Places,
+        places: &TupleSet,
         from: usize,
         row: &Row,
         image: &mut Tuple,
     ) -> Result<bool, OutOfMemory>
         requires row { IsRow row.now }
-        requires stands { slice_get (tuples_of places.now) from ≡ Some (row_tuple row.now) }
+        requires stands { slice_get places.now from ≡ Some (row_tuple row.now) }
         requires rooms { HasRoomsFor image.old (row_tuple row.now) }
-        requires cells { HasCells (length (tuples_of places.now)) self.old }
-        ensures over { IfOk result (λ whole. MatchBool whole (GoesOver (tuples_of places.now) from self.old self.new) ((u : TupleData) × IsAbsentImage (tuples_of places.now) (row_tuple row.now) u)) }
-        ensures cells { OnOk result (HasCells (length (tuples_of places.now)) self.new) }
+        requires cells { HasCells (length places.now) self.old }
+        ensures over { IfOk result (λ whole. MatchBool whole (GoesOver places.now from self.old self.new) ((u : TupleData) × IsAbsentImage places.now (row_tuple row.now) u)) }
+        ensures cells { OnOk result (HasCells (length places.now) self.new) }
         ensures rooms { KeepsRooms image.old image.new }
     {
         for m in row.moves.items() {
@@ -112,23 +113,25 @@ pub(crate) fn first_parents(
     alloc: Global,
     root: &Tuple,
     rows: &[Row],
-    places: &Places,
+    places: &TupleSet,
     image: &mut Tuple,
 ) -> Result<Option<Vec<Option<(usize, Move)>>>, OutOfMemory>
     requires rows { All IsRow rows.now }
-    requires placing { IsOrderedPlacing (map row_tuple rows.now) places.now }
-    requires within { All (InLevel root.now.plain) (tuples_of places.now) }
+    requires placing { IsPlacing (map row_tuple rows.now) places.now }
+    requires within { All (InLevel root.now.plain) places.now }
     requires rooms { HasRoomsFor image.old root.now.plain }
-    ensures parents { IfOk result (λ o. MatchOption o ((t : TupleData) × IsMissed root.now.plain (tuples_of places.now) t) (λ p. IsLevel root.now.plain (tuples_of places.now) × AreParents root.now.plain (tuples_of places.now) p.items)) }
+    ensures parents { IfOk result (λ o. MatchOption o ((t : TupleData) × IsMissed root.now.plain places.now t) (λ p. IsLevel root.now.plain places.now × AreParents root.now.plain places.now p.items)) }
     ensures rooms { KeepsRooms image.old image.new }
 {
     let Some(start) = places.place(root) else {
         return Ok(None);
     };
-    let mut search = Search::start(alloc, places.count(), start)?;
+    let numbers = row_numbers(alloc, rows, places)?;
+    let mut search = Search::start(alloc, places.len(), start)?;
     let mut at = 0;
     while let Some(from) = search.found(at) {
-        if !search.expand(places, from, &rows[places.row(from)], image)? {
+        let number = numbers[from];
+        if !search.expand(places, from, &rows[number], image)? {
             return Ok(None);
         }
         at += 1;

@@ -6,10 +6,8 @@ use Rattle.wh_words.specs.LetterSets.{in_set}
 use Rattle.wh_words.specs.Words.{free_reduction, IsReduced}
 use Rattle.wh_words.specs.Images.{image}
 use Rattle.wh_words.specs.Moves.Kind.{cut}
+use Rattle.wh_words.proofs.CutWords.{around}
 use Rattle.wh_words.proofs.FreeReduction.{free_reduction-same, inverse-inverse, inverse_generator}
-
-abbrev around : Bool → Bool → ℕ → ℕ → List ℕ
-around before behind a x = cond before (inverse_letter a ∷ []) [] ++ x ∷ cond behind (a ∷ []) []
 
 module _ (a set x : ℕ) (apart : x / 2 ≢ a / 2) where
   not_inverse : a ≢ inverse_letter x

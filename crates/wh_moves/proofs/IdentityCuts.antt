@@ -1,6 +1,6 @@
 -- Identity cuts: cuts whose set has the multiplier alone, and which leave every tuple as it is.
-use Rattle.std.proofs.Common.{◌≡◌, ◌≢◌, ◌⊎◌, ℕ, ◌/◌, ◌^◌, ◌==◌, Bool, false, cond, List, [], ◌∷◌, ◌++◌, map, refl, sym, ap, ◌∙◌, inl, inr}
-use Rattle.std.proofs.lemmas.Bool.{cases_eq, eq-eqb, ne_eqb}
+use Rattle.std.proofs.Common.{◌≡◌, ◌≢◌, ◌⊎◌, ℕ, ◌/◌, ◌^◌, ◌==◌, Bool, false, List, [], ◌∷◌, ◌++◌, map, refl, sym, ap, ◌∙◌, inl, inr}
+use Rattle.std.proofs.lemmas.Bool.{cases_eq}
 use Rattle.std.proofs.lemmas.Nat.Bits.{bit_at-pow_other}
 use Rattle.std.specs.List.{All}
 use Rattle.std.proofs.lemmas.List.Elements.{All-head, All-tail}
@@ -12,16 +12,11 @@ use Rattle.wh_words.specs.Moves.{Kind, Move, IsIdentityCut}
 use Rattle.wh_words.specs.Moves.Kind.{swap, invert, cut}
 use Rattle.wh_words.specs.Images.{image}
 use Rattle.wh_words.specs.Action.{act, substitute}
+use Rattle.wh_words.proofs.CutWords.{around, own_image, other_image}
 use Rattle.wh_words.proofs.FreeReduction.{inverse_generator}
 
-own_image : (a set x : ℕ) → x / 2 ≡ a / 2 → image (cut a set) x ≡ x ∷ []
-own_image a set x e = ap (λ (b : Bool). cond b (x ∷ []) (cond (in_set set (inverse_letter x)) (inverse_letter a ∷ []) [] ++ x ∷ cond (in_set set x) (a ∷ []) [])) (eq-eqb (x / 2) (a / 2) e)
-
-other_image : (a set x : ℕ) → x / 2 ≢ a / 2 → in_set set (inverse_letter x) ≡ false → in_set set x ≡ false → image (cut a set) x ≡ x ∷ []
-other_image a set x n h k =
-    ap (λ (b : Bool). cond b (x ∷ []) (cond (in_set set (inverse_letter x)) (inverse_letter a ∷ []) [] ++ x ∷ cond (in_set set x) (a ∷ []) [])) (ne_eqb (x / 2) (a / 2) n)
-    ∙ ap (λ (b : Bool). cond b (inverse_letter a ∷ []) [] ++ x ∷ cond (in_set set x) (a ∷ []) []) h
-    ∙ ap (λ (b : Bool). x ∷ cond b (a ∷ []) []) k
+unmoved_image : (a set x : ℕ) → x / 2 ≢ a / 2 → in_set set (inverse_letter x) ≡ false → in_set set x ≡ false → image (cut a set) x ≡ x ∷ []
+unmoved_image a set x n h k = other_image a set x n ∙ ap (λ (b : Bool). around b (in_set set x) a x) h ∙ ap (λ (b : Bool). around false b a x) k
 
 not_alone : (a x : ℕ) → x ≢ a → in_set (2 ^ a) x ≡ false
 not_alone a x n = ap (λ b. b == 1) (bit_at-pow_other a x n)
@@ -29,7 +24,7 @@ not_alone a x n = ap (λ b. b == 1) (bit_at-pow_other a x n)
 identity_image : (a x : ℕ) → image (cut a (2 ^ a)) x ≡ x ∷ []
 identity_image a x = elim (cases_eq (x / 2) (a / 2)) [
   | inl e ↦ own_image a (2 ^ a) x e
-  | inr n ↦ other_image a (2 ^ a) x n
+  | inr n ↦ unmoved_image a (2 ^ a) x n
       (not_alone a (inverse_letter x) (λ e. n (sym (inverse_generator x) ∙ ap (λ y. y / 2) e)))
       (not_alone a x (λ e. n (ap (λ y. y / 2) e)))
 ]

@@ -17,10 +17,13 @@ use Rattle.wh_words.specs.Images.{image, swap_letter, invert_letter, inverse_wor
 use Rattle.wh_words.specs.Action.{substitute}
 use Rattle.wh_moves.specs.Laws.{InverseIsMove, InverseOfInverse, InverseUndoes}
 use Rattle.wh_words.proofs.FreeReduction.{inverse-inverse, inverse-other, inverse_generator, free_reduction-append_left, free_reduction-pair}
+use Rattle.wh_words.proofs.CutWords.{around, own_image, other_image}
+use Rattle.wh_words.proofs.ImageLetters.{inverse_below}
 use Rattle.wh_words.proofs.LawProofs.{cancels}
+use Rattle.wh_words.proofs.OnePass.{same_class}
 use Rattle.wh_words.proofs.MoveLaws.{image_of_inverse}
 use Rattle.wh_moves.proofs.Masks.{added_same, added_other, added_within, held, removed_same, removed_other}
-use Rattle.wh_moves.proofs.Substitutions.{same_class, of_class}
+use Rattle.wh_moves.proofs.Substitutions.{of_class}
 
 -- ---- the set of an inverse cut
 inverse_small : (a : ℕ) → a < 52 → inverse_letter a < 64
@@ -61,14 +64,10 @@ module _ (a set : ℕ) (holds : bit_at set a ≡ 1) (omits : bit_at set (inverse
         ]
       ])
 
-inverse_within : (n a : ℕ) → a < 2 * n → inverse_letter a < 2 * n
-unfolding inverse_letter
-inverse_within n a h = omega arith
-
 inverse_cut : (n a set : ℕ) → IsCut n a set → IsCut n (inverse_letter a) (turned_set a set)
 inverse_cut n a set c = record {
-  of_rank = inverse_within n a c.of_rank;
-  within = turned_within a set c.holds c.omits (2 * n) c.within (inverse_within n a c.of_rank);
+  of_rank = inverse_below n a c.of_rank;
+  within = turned_within a set c.holds c.omits (2 * n) c.within (inverse_below n a c.of_rank);
   holds = turned_holds a set c.holds c.omits;
   omits = ap (bit_at (turned_set a set)) (inverse-inverse a) ∙ turned_omits a set c.holds c.omits;
 }
@@ -106,15 +105,6 @@ invert_back k x = elim (cases_eq (x / 2 + 1) k) [
       let here : invert_letter k x ≡ x = ap (λ (b : Bool). cond b (inverse_letter x) x) (ne_eqb (x / 2 + 1) k n) in
       ap (invert_letter k) here ∙ here)
 ]
-
-abbrev around : Bool → Bool → ℕ → ℕ → List ℕ
-around before behind a x = cond before (inverse_letter a ∷ []) [] ++ x ∷ cond behind (a ∷ []) []
-
-own_image : (a set x : ℕ) → x / 2 ≡ a / 2 → image (cut a set) x ≡ x ∷ []
-own_image a set x e = ap (λ (b : Bool). cond b (x ∷ []) (around (in_set set (inverse_letter x)) (in_set set x) a x)) (eq-eqb (x / 2) (a / 2) e)
-
-other_image : (a set x : ℕ) → x / 2 ≢ a / 2 → image (cut a set) x ≡ around (in_set set (inverse_letter x)) (in_set set x) a x
-other_image a set x n = ap (λ (b : Bool). cond b (x ∷ []) (around (in_set set (inverse_letter x)) (in_set set x) a x)) (ne_eqb (x / 2) (a / 2) n)
 
 module _ (f : ℕ → List ℕ) (a x : ℕ) (at_a : f a ≡ a ∷ []) (at_a' : f (inverse_letter a) ≡ inverse_letter a ∷ []) where
   around_undone : (b c : Bool) → f x ≡ around b c (inverse_letter a) x → free_reduction (flat_map f (around b c a x)) ≡ x ∷ []

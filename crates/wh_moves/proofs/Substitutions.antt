@@ -6,16 +6,14 @@ use Rattle.std.specs.List.{flat_map}
 use Rattle.wh_words.specs.Letters.{inverse_letter}
 use Rattle.wh_words.specs.Words.{free_reduction, DeletesTo}
 use Rattle.wh_words.specs.Words.DeletesTo.{none, pair}
-use Rattle.wh_words.specs.CyclicWords.{cyclic_core, cyclic_reduction, cyclic_word, least_rotation, rotate, IsCyclicReduction, IsLeastRotation, StripsTo}
+use Rattle.wh_words.specs.CyclicWords.{cyclic_reduction, cyclic_word, rotate, IsCyclicReduction, IsLeastRotation, StripsTo}
 use Rattle.wh_words.specs.CyclicWords.StripsTo.{none as bare, ends}
 use Rattle.wh_words.proofs.FreeReduction.{inverse-inverse, free_reduction-append_left, free_reduction-append_right}
 use Rattle.wh_words.proofs.Rotations.{cyclic_word-turn, least_rotation-is}
 use Rattle.wh_words.proofs.LawProofs.{cyclic_reduction_remains}
+use Rattle.wh_words.proofs.OnePass.{same_class}
 
 -- Words with one free reduction have one cyclic word.
-pub same_class : (u v : List ℕ) → free_reduction u ≡ free_reduction v → cyclic_word u ≡ cyclic_word v
-same_class u v e = ap (λ w. least_rotation (cyclic_core w)) e
-
 -- What reduces to nothing can be left out.
 between : (u v w : List ℕ) → free_reduction v ≡ [] → free_reduction (u ++ (v ++ w)) ≡ free_reduction (u ++ w)
 between u v w e =

@@ -1,4 +1,5 @@
 pub mod Kinds
+pub mod MoveOrders
 pub mod Acts
 pub mod Laws
 -- The definitions of the theory, for the crates above.

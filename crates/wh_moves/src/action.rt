@@ -1,5 +1,6 @@
 //! The action of a move on a tuple of cyclic words.
 ghost use Rattle.std.specs.Prelude.{◌≡◌, ◌≤◌, length, IfOk, IfErr};
+ghost use Rattle.wh_words.specs.Limits.{most_letters};
 ghost use Rattle.wh_words.specs.Words.{IsOfRank};
 ghost use Rattle.wh_words.specs.CyclicWords.{cyclic_word};
 ghost use Rattle.wh_words.specs.Tuples.{tuple_length, own_room, with_word, HasLetterRoom, HasWordRoom, in_rooms_of};
@@ -10,10 +11,7 @@ ghost use Rattle.wh_moves.specs.Acts.{Fits, IsActFault};
 use crate::moves::{Kind, Move};
 use std::alloc::Global;
 use thiserror::Error;
-use wh_words::{Letter, OutOfMemory, Tuple, cut_image_length};
-
-/// The greatest number of letters of a tuple.
-pub(crate) const MOST_LETTERS: u32 = 4096;
+use wh_words::{Letter, MOST_LETTERS, OutOfMemory, Tuple, cut_image_length};
 
 /// Why a move can't be made.
 #[derive(Debug, Drop, PartialEq, Eq, Error)]
@@ -72,7 +70,7 @@ pub fn act_into(tuple: &Tuple, m: &Move, into: &mut Tuple)
 #[tactic(auto, using(crate::proofs::ActedWords::swap_length, crate::proofs::ActedWords::invert_length))]
 fn image_length(word: &[Letter], m: &Move) -> u32
     requires own { cyclic_word word.now ≡ word.now }
-    requires short { length word.now ≤ 4096 }
+    requires short { length word.now ≤ most_letters }
     ensures { result ≡ length (cyclic_word (substitute m.now.kind word.now)) }
 {
     match m.kind() {

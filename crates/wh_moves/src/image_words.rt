@@ -1,5 +1,6 @@
 //! One word for each generator.
-ghost use Rattle.std.specs.Prelude.{◌≡◌, ◌==◌};
+ghost use Rattle.std.specs.Prelude.{◌≡◌, ◌==◌, ◌↔◌, ◌*◌, ◌∷◌, [], IsTrue};
+ghost use Rattle.wh_words.specs.Images.{AreIdentity};
 ghost use Rattle.std.specs.Cmp.Rules.{comparing};
 ghost use Rattle.std.proofs.Common.{rules};
 ghost use lib.Pointwise.{pointwise};
@@ -21,6 +22,16 @@ impl Model for Images {
     ghost view = { λ i. i.words };
 }
 
+/// Whether a word is the letter of generator `g` alone, counted from 0.
+fn is_generator(word: &Word, g: usize) -> bool
+    ensures { IsTrue result ↔ (word.now ≡ 2 * g ∷ []) }
+{
+    match word.letters() {
+        [letter] => !letter.is_inverse() && letter.index() as usize / 2 == g,
+        _ => false,
+    }
+}
+
 impl Images {
     pub(crate) fn of(words: Vec<Word>) -> Images
         ensures { result ≡ words.items }
@@ -35,6 +46,18 @@ impl Images {
         ensures { result.now ≡ self.now }
     {
         self.words.items()
+    }
+
+    /// Whether they are the images of the identity, each generator by its letter alone. It takes no memory.
+    pub fn is_identity(&self) -> bool
+        ensures { IsTrue result ↔ AreIdentity self.now }
+    {
+        for (g, word) in self.words().iter().enumerate() {
+            if !is_generator(word, g) {
+                return false;
+            }
+        }
+        true
     }
 }
 

@@ -6,6 +6,7 @@ mod image_words;
 pub mod laws;
 mod letter_images;
 mod list_action;
+mod move_order;
 mod moves;
 
 pub use action::{ActError, act, act_into, acted_length};

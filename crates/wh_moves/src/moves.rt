@@ -24,7 +24,7 @@ pub enum Kind {
 /// A move of a rank. Swaps and inversions are of the first kind, and generate all permutations of letters that commute
 /// with inversion; cuts are of the second (Lyndon and Schupp, I.4). Contracts see the rank and the kind. Moves are
 /// ordered by rank and then by kind.
-#[derive(Clone, Copy, PartialEq, Eq, PartialOrd, Ord, Hash, Debug)]
+#[derive(Clone, Copy, PartialEq, Eq, Hash, Debug)]
 pub struct Move {
     rank: Rank,
     kind: Kind,

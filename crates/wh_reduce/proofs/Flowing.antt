@@ -6,21 +6,21 @@ use Rattle.std.proofs.lemmas.List.Elements.{All-push}
 use Rattle.std.specs.List.{All}
 use Rattle.wh_words.specs.Letters.{inverse_letter}
 use Rattle.wh_words.specs.Tuples.{TupleData, IsTuple}
-use Rattle.wh_words.specs.CapacityTraces.{IsTight}
+use Rattle.wh_words.specs.CapacityTraces.{IsFlatByCapacities}
 use Rattle.wh_words.specs.Flows.{degree, IsFlow, IsFirstFlow, HasValue, HaveOneValue, FillsLeastCut}
 use Rattle.wh_words.specs.TupleFlows.{edge_table, IsFlowOfLetter}
 use Rattle.wh_flow.specs.Nets.{Net, cell}
 use Rattle.wh_flow.proofs.Cuts.{value_degree}
 use Rattle.wh_graph.specs.Graphs.{IsGraph}
-use Rattle.wh_graph.proofs.NetworkCuts.{graph_tight}
+use Rattle.wh_graph.proofs.NetworkCuts.{graph_flat}
 use Rattle.wh_graph.proofs.EdgeTables.{graph_degree}
-use Rattle.wh_reduce.specs.TightNetworks.{IsTightNetworkAt}
+use Rattle.wh_reduce.specs.FlatNetworks.{IsFlatNetworkAt}
 
--- In a tight network the flows of greatest value have the degree as their value, and so has a flow of the same value.
-pub tight_value : (net : Net) (f g : List ℕ) (a : ℕ) → a < 52 → IsTightNetworkAt net a → IsFlow (cell net.cells) (cell f) a (inverse_letter a)
+-- In a flat network the flows of greatest value have the degree as their value, and so has a flow of the same value.
+pub flat_value : (net : Net) (f g : List ℕ) (a : ℕ) → a < 52 → IsFlatNetworkAt net a → IsFlow (cell net.cells) (cell f) a (inverse_letter a)
     → FillsLeastCut (cell net.cells) (cell f) a (inverse_letter a) → HaveOneValue (cell f) (cell g) a → HasValue (cell g) a (degree (cell net.cells) a)
-tight_value net f g a low tight flow fills same =
-    omega (arith, same, (value_degree (cell net.cells) (cell f) a (inverse_letter a) low flow fills).1 tight)
+flat_value net f g a low flat flow fills same =
+    omega (arith, same, (value_degree (cell net.cells) (cell f) a (inverse_letter a) low flow fills).1 flat)
 
 -- Tables that agree on all letters have the same flows.
 flow_there : (c d f : ℕ → ℕ → ℕ) (s t : ℕ) → ((x y : ℕ) → x < 52 → y < 52 → c x y ≡ d x y) → IsFlow c f s t → IsFlow d f s t
@@ -33,8 +33,8 @@ first_there c d f s t e first = record {
 }
 
 module _ (net : Net) (t : TupleData) (is : IsTuple t) (rank : t.rank ≤ 26) (graph : IsGraph net t) where
-  pub tight_network : (a generator : ℕ) → a ≡ 2 * generator → generator < t.rank → IsTight t → IsTightNetworkAt net a
-  tight_network a generator e low tight = subst (IsTightNetworkAt net) (sym e) ((graph_tight net t (2 * generator) is rank graph (omega (arith, low))).0 (tight generator))
+  pub flat_network : (a generator : ℕ) → a ≡ 2 * generator → generator < t.rank → IsFlatByCapacities t → IsFlatNetworkAt net a
+  flat_network a generator e low flat = subst (IsFlatNetworkAt net) (sym e) ((graph_flat net t (2 * generator) is rank graph (omega (arith, low))).0 (flat generator))
 
   pub flow_of_letter : (f : List ℕ) (a : ℕ) → a < 52 → IsFirstFlow (cell net.cells) (cell f) a (inverse_letter a) → HasValue (cell f) a (degree (cell net.cells) a) → IsFlowOfLetter t a (cell f)
   flow_of_letter f a low first value = record {

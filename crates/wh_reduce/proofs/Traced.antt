@@ -1,15 +1,15 @@
 -- The trace of a tuple, step by step.
-use Rattle.std.proofs.Common.{◌≡◌, ◌*◌, ◌<◌, ◌≤◌, List, [], ◌∷◌, ◌++◌, length, sym, ap, ◌∙◌, subst, arith, append_assoc, append-nil}
-use Rattle.wh_words.specs.Tuples.{TupleData, Tuple, IsTuple, tuple_length, in_rooms_of}
+use Rattle.std.proofs.Common.{◌≡◌, ◌*◌, ◌<◌, ◌≤◌, List, [], ◌∷◌, ◌++◌, length, refl, sym, ap, ◌∙◌, subst, arith, append_assoc, append-nil}
+use Rattle.wh_words.specs.Tuples.{TupleData, Tuple, IsTuple, tuple_length, own_room, in_rooms_of}
 use Rattle.wh_words.specs.Moves.{Move}
 use Rattle.wh_words.specs.Action.{act, substitute}
 use Rattle.wh_words.specs.CyclicWords.{cyclic_word}
 use Rattle.std.proofs.lemmas.List.{length-map}
 use Rattle.wh_words.specs.Traces.{cut_length, IsFlat}
-use Rattle.wh_words.specs.CapacityTraces.{IsTight, IsCapacityStep, IsCapacityTrace}
+use Rattle.wh_words.specs.CapacityTraces.{IsFlatByCapacities, IsCapacityStep, IsCapacityTrace}
 use Rattle.wh_words.specs.CapacityTraces.IsCapacityTrace.{done, step}
 use Rattle.wh_graph.proofs.Lengths.{cuts_shorten}
-use Rattle.wh_graph.proofs.Agreement.{flat_is_tight}
+use Rattle.wh_graph.proofs.Agreement.{flat_by_capacities}
 
 -- The moves are the front of the trace of t, up to now.
 pub record Traced (t : TupleData) (moves : List Move) (now : TupleData) : Type 0 where
@@ -24,11 +24,11 @@ traced_step t now next moves m d s e = record {
       (d.front (m ∷ ms) end (step s (subst (λ (u : TupleData). IsCapacityTrace u ms end) e r)));
 }
 
-pub traced_end : (t now : TupleData) (moves : List Move) → Traced t moves now → IsTight now → IsCapacityTrace t moves now
+pub traced_end : (t now : TupleData) (moves : List Move) → Traced t moves now → IsFlatByCapacities now → IsCapacityTrace t moves now
 traced_end t now moves d f = subst (λ (l : List Move). IsCapacityTrace t l now) (append-nil moves) (d.front [] now (done f))
 
-pub tight_is_flat : (t : TupleData) → IsTuple t → IsTight t → IsFlat t
-tight_is_flat t is f = (flat_is_tight t is).1 f
+pub flat_from_capacities : (t : TupleData) → IsTuple t → IsFlatByCapacities t → IsFlat t
+flat_from_capacities t is f = (flat_by_capacities t is).1 f
 
 -- ---- the rooms of the two tuples
 -- The tuple now is of the rank of t, has as many words and no more letters, and both it and the spare one have the rooms of t.
@@ -40,6 +40,17 @@ pub record AreRoomy (t : TupleData) (now spare : Tuple) : Type 0 where
   pub word_room : now.word_room ≡ length t.words
   pub spare_room : spare.room ≡ tuple_length t
   pub spare_word_room : spare.word_room ≡ length t.words
+
+pub roomy_start : (now spare : Tuple) → now ≡ own_room now.plain → spare ≡ now → AreRoomy now.plain now spare
+roomy_start now spare own same = record {
+  rank = refl;
+  count = refl;
+  short = omega arith;
+  room = ap (λ (u : Tuple). u.room) own;
+  word_room = ap (λ (u : Tuple). u.word_room) own;
+  spare_room = ap (λ (u : Tuple). u.room) (same ∙ own);
+  spare_word_room = ap (λ (u : Tuple). u.word_room) (same ∙ own);
+}
 
 pub step_shortens : (t : TupleData) (m : Move) → IsTuple t → IsCapacityStep t m → tuple_length (act t m) < tuple_length t
 step_shortens t m is s =

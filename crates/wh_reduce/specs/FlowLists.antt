@@ -1,4 +1,4 @@
--- A flow for each generator of a tuple, which show that the tuple is tight, after Roig, Ventura and Weil 2007.
+-- A flow for each generator of a tuple, which show that the tuple is flat, after Roig, Ventura and Weil 2007.
 use Rattle.std.specs.Prelude.{◌≡◌, ℕ, ◌*◌, ◌<◌, List, [], length, get_or}
 use Rattle.std.specs.List.{All}
 use Rattle.wh_words.specs.Tuples.{TupleData}

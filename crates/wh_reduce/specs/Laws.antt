@@ -1,5 +1,6 @@
 -- What the flows of generators show, as statements that contracts name, after Roig, Ventura and Weil 2007.
 use Rattle.std.specs.Prelude.{◌≡◌, ℕ, ◌*◌, ◌<◌, ◌≤◌, List, [], get_or}
+use Rattle.wh_words.specs.Limits.{most_rank}
 use Rattle.wh_words.specs.Tuples.{TupleData, IsTuple}
 use Rattle.wh_words.specs.Traces.{IsFlat}
 use Rattle.wh_words.specs.Flows.{IsFlow, HasValue}
@@ -15,7 +16,7 @@ HasFullFlows t = (generator : ℕ) → generator < t.rank → (f : ℕ → ℕ �
 
 -- Where each generator has such a flow, whatever it is, no cut shortens the tuple. So flows are a certificate.
 abbrev pub FullFlowsShowFlatness : Type 0
-FullFlowsShowFlatness = (t : TupleData) → IsTuple t → t.rank ≤ 26 → HasFullFlows t → IsFlat t
+FullFlowsShowFlatness = (t : TupleData) → IsTuple t → t.rank ≤ most_rank → HasFullFlows t → IsFlat t
 
 -- A tuple has one list of flows.
 abbrev pub FlowsAreUnique : Type 0

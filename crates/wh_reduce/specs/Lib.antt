@@ -1,4 +1,4 @@
-pub mod TightNetworks
+pub mod FlatNetworks
 pub mod FlowLists
 pub mod Laws
 -- The definitions of the theory, for the crates above.

@@ -1,11 +1,11 @@
-//! The flows that show that a tuple is tight.
+//! The flows that show that a tuple is flat.
 ghost use Rattle.std.specs.Prelude.{◌≡◌, ◌*◌, ◌<◌, length, IfOk};
 ghost use Rattle.wh_words.specs.Letters.{inverse_letter};
 ghost use Rattle.wh_words.specs.Tuples.{IsRoomed};
 ghost use Rattle.wh_words.specs.Flows.{IsFirstFlow, HasValue, degree};
-ghost use Rattle.wh_words.specs.CapacityTraces.{IsTight};
+ghost use Rattle.wh_words.specs.CapacityTraces.{IsFlatByCapacities};
 ghost use Rattle.wh_flow.specs.Nets.{cell};
-ghost use Rattle.wh_reduce.specs.TightNetworks.{IsTightNetworkAt};
+ghost use Rattle.wh_reduce.specs.FlatNetworks.{IsFlatNetworkAt};
 ghost use Rattle.wh_reduce.specs.FlowLists.{AreFlows};
 
 use std::alloc::Global;
@@ -17,7 +17,7 @@ use wh_words::{Letter, OutOfMemory, Tuple};
 fn flow_of(net: &Net, letter: Letter) -> Flow
     requires index { letter < 52 }
     requires of_rank { letter < 2 * net.now.rank }
-    requires tight { IsTightNetworkAt net.now letter }
+    requires flat { IsFlatNetworkAt net.now letter }
     ensures size { length result ≡ 2704 }
     ensures first { IsFirstFlow (cell net.now.cells) (cell result) letter (inverse_letter letter) }
     ensures value { HasValue (cell result) letter (degree (cell net.now.cells) letter) }
@@ -27,11 +27,11 @@ fn flow_of(net: &Net, letter: Letter) -> Flow
     least_flow(net, &flow, letter, inverse)
 }
 
-/// For each generator in order, the first flow from it to its inverse in the Whitehead graph of a tight tuple that has the
+/// For each generator in order, the first flow from it to its inverse in the Whitehead graph of a flat tuple that has the
 /// generator's degree as its value. These flows show that no cut shortens the tuple (Roig, Ventura and Weil 2007). It takes
 /// memory for the list of flows alone.
 pub fn flows(alloc: Global, tuple: &Tuple) -> Result<Vec<Flow>, OutOfMemory>
-    requires { IsTight tuple.now.plain }
+    requires { IsFlatByCapacities tuple.now.plain }
     ensures flows { IfOk result (λ v. AreFlows tuple.now.plain v.items) }
     ensures roomed { IsRoomed tuple.now }
 {

@@ -1,4 +1,4 @@
-//! Laws of the flows that are told with a tight tuple. Each is the contract of a function that does nothing.
+//! Laws of the flows that are told with a flat tuple. Each is the contract of a function that does nothing.
 ghost use Rattle.wh_reduce.specs.Laws.{FullFlowsShowFlatness, FlowsAreUnique};
 
 /// Where each generator has a flow to its inverse that has its degree as its value, no cut shortens the tuple: whoever

@@ -1,4 +1,4 @@
-//! Shortening a tuple by cuts of least capacity until it is tight, and the flows that show that it is.
+//! Shortening a tuple by cuts of least capacity until it is flat, and the flows that show that it is.
 #![tactic(auto)]
 
 mod generator_flows;

@@ -7,7 +7,9 @@ use wh_text::{ReadError, read_answer};
 /// What is found of the certificate that a text tells.
 fn found(alloc: Global, text: &str) -> Result<Checked, Fail> {
     let numbered = read_answer(alloc, text.as_bytes())?;
-    Ok(check(alloc, &numbered)?)
+    let found = check(alloc, &numbered);
+    drop(numbered);
+    Ok(found?)
 }
 
 #[test]

@@ -1,5 +1,5 @@
 //! The Whitehead graph, its capacities and flows.
-use crate::support::{letter, tuple};
+use crate::support::{is_spelled, letter, tuple};
 use std::test::Fail;
 use wh_flow::{Flow, check_flow, least_cut, least_flow, max_flow_uncounted, reach};
 use wh_graph::{cap, deg, graph, new_length};
@@ -70,7 +70,7 @@ fn a_flow_stands_for_each_generator(rt: HostRuntime) -> Result<(), Fail> {
     let alloc = rt.alloc();
     let trace = reduce(alloc, &tuple(alloc, "rank 3\ntuple abcABC\n")?)?;
     assert_eq!(rt; trace.moves.items().len(), 1);
-    assert!(rt; trace.end.same(&tuple(alloc, "rank 3\ntuple bcBC\n")?));
+    assert!(rt; is_spelled(&trace.end, "bcBC"));
     assert_eq!(rt; flows(alloc, &trace.end)?.len(), 3);
     Ok(())
 }

@@ -1,8 +1,9 @@
 //! Levels: the level moves of a tuple, the rows of a level, its tree and its first walks.
-ghost use Rattle.std.specs.Prelude.{◌≡◌, ◌<◌, ◌≤◌, IfOk};
+ghost use Rattle.std.specs.Prelude.{◌≡◌, ◌<◌, ◌≤◌, length, IfOk};
+ghost use Rattle.wh_words.specs.Limits.{most_level_rank};
 ghost use Rattle.wh_expand.specs.Rows.{IsRow, row_tuple};
 
-use crate::support::{letter, tuple};
+use crate::support::{are_spelled, is_spelled, tuple};
 use std::alloc::Global;
 use std::marker::Brand;
 use std::sync::ledger::{Blank, Ledger};
@@ -11,12 +12,12 @@ use wh_expand::{Row, level_moves};
 use wh_level::{Level, Sealed, seal, tree};
 use wh_moves::{Kind, Move};
 use wh_walk::walk;
-use wh_words::{LetterSet, OutOfMemory, Steps, Tuple};
+use wh_words::{OutOfMemory, Steps, Tuple};
 use wh_workers::{Explored, explore_one};
 
 /// The row of a tuple, by a counter over a blank.
 fn row_over<L: Ledger>(alloc: Global, tuple: &Tuple, blank: Blank) -> Result<Row, OutOfMemory>
-    requires rank { tuple.now.plain.rank ≤ 6 }
+    requires rank { tuple.now.plain.rank ≤ most_level_rank }
     requires name { blank.name ≡ L.name }
     requires parts { blank.parts ≡ L.parts }
     requires some { 0 < blank.parts }
@@ -29,7 +30,7 @@ fn row_over<L: Ledger>(alloc: Global, tuple: &Tuple, blank: Blank) -> Result<Row
 
 /// The row of a tuple.
 fn row(alloc: Global, tuple: &Tuple) -> Result<Row, OutOfMemory>
-    requires { tuple.now.plain.rank ≤ 6 }
+    requires { tuple.now.plain.rank ≤ most_level_rank }
     ensures row { IfOk result IsRow }
     ensures own { IfOk result (λ r. row_tuple r ≡ tuple.now.plain) }
 {
@@ -43,7 +44,7 @@ fn explored_over<L: Ledger>(
     limit: u32,
     blank: Blank,
 ) -> Result<Explored, OutOfMemory>
-    requires rank { root.now.plain.rank ≤ 6 }
+    requires rank { root.now.plain.rank ≤ most_level_rank }
     requires name { blank.name ≡ L.name }
     requires parts { blank.parts ≡ L.parts }
     requires some { 0 < blank.parts }
@@ -54,14 +55,14 @@ fn explored_over<L: Ledger>(
 
 /// What exploring the level of a root answers.
 fn explored(alloc: Global, root: &Tuple, limit: u32) -> Result<Explored, OutOfMemory>
-    requires { root.now.plain.rank ≤ 6 }
+    requires { root.now.plain.rank ≤ most_level_rank }
 {
     explored_over::<Brand>(alloc, root, limit, Blank::new(1))
 }
 
 /// The tuple of a problem text of rank 6 at most.
 fn low_tuple(alloc: Global, text: &str) -> Result<Tuple, Fail>
-    ensures { IfOk result (λ t. t.plain.rank ≤ 6) }
+    ensures { IfOk result (λ t. t.plain.rank ≤ most_level_rank) }
 {
     let tuple = tuple(alloc, text)?;
     if tuple.rank().get() > 6 {
@@ -70,21 +71,69 @@ fn low_tuple(alloc: Global, text: &str) -> Result<Tuple, Fail>
     Ok(tuple)
 }
 
+/// Whether a move is the cut with a multiplier, told by its index, and a set, told by its bits.
+fn is_cut(m: &Move, cut: (u8, u64)) -> bool {
+    match m.kind() {
+        Kind::Cut { mult, set } => (mult.index(), set.bits()) == cut,
+        Kind::Swap(_) | Kind::Invert(_) => false,
+    }
+}
+
+/// Whether all moves from a place on are these cuts.
+fn end_with_cuts(moves: &[Move], from: usize, cuts: &[(u8, u64)]) -> bool
+    requires { from ≤ length moves.now }
+{
+    if moves.len() - from != cuts.len() {
+        return false;
+    }
+    for k in 0..cuts.len() {
+        if !is_cut(&moves[from + k], cuts[k]) {
+            return false;
+        }
+    }
+    true
+}
+
 #[test]
 fn a_commutator_has_fifteen_level_moves(rt: HostRuntime) -> Result<(), Fail> {
-    let root = tuple(rt.alloc(), "rank 2\ntuple abAB\n")?;
+    let root = low_tuple(rt.alloc(), "rank 2\ntuple abAB\n")?;
     let rank = root.rank();
-    assert!(rt; rank.get() <= 6);
     let row = row(rt.alloc(), &root)?;
     let moves = row.moves.items();
     assert_eq!(rt; moves.len(), 15);
     assert_eq!(rt; moves.first().copied(), Move::swap(rank, 1));
     assert_eq!(rt; moves.get(1).copied(), Move::invert(rank, 1));
     assert_eq!(rt; moves.get(2).copied(), Move::invert(rank, 2));
-    assert_eq!(rt;
-        moves.get(3).copied(),
-        Move::cut(rank, letter(b'a')?, LetterSet::of_bits(5))
-    );
+    // The letters a, A, b and B have the indices 0 to 3, so that the first cut is a:ab.
+    let cuts = [
+        (0, 5),
+        (0, 9),
+        (0, 13),
+        (1, 6),
+        (1, 10),
+        (1, 14),
+        (2, 5),
+        (2, 6),
+        (2, 7),
+        (3, 9),
+        (3, 10),
+        (3, 11),
+    ];
+    assert!(rt; end_with_cuts(moves, 3, &cuts));
+    Ok(())
+}
+
+#[test]
+#[tactic(auto, using(crate::proofs::RootRows::root_row_within, crate::proofs::RootRows::root_row_is))]
+fn the_row_of_an_empty_word_is_a_whole_level(rt: HostRuntime) -> Result<(), Fail> {
+    let root = tuple(rt.alloc(), "rank 2\ntuple 1\n")?;
+    assert!(rt; root.rank().get() <= 6);
+    let rows = [row(rt.alloc(), &root)?];
+    let Sealed::Closed(level) = seal(rt.alloc(), &root, &rows)? else {
+        return Err("missing")?;
+    };
+    assert!(rt; level.root().same(&root));
+    assert!(rt; are_spelled(level.tuples(), &[""]));
     Ok(())
 }
 
@@ -97,8 +146,7 @@ fn the_row_of_a_root_misses_its_images(rt: HostRuntime) -> Result<(), Fail> {
     let Sealed::Missing(missing) = seal(rt.alloc(), &root, &rows)? else {
         return Err("closed")?;
     };
-    assert_eq!(rt; missing.items().len(), 1);
-    assert!(rt; missing.items()[0].same(&tuple(rt.alloc(), "rank 2\ntuple aBAb\n")?));
+    assert!(rt; are_spelled(missing.items(), &["aBAb"]));
     Ok(())
 }
 
@@ -120,8 +168,8 @@ fn walk_to(alloc: Global, target: &str) -> Result<Option<Vec<Move>>, Fail> {
 #[test]
 fn the_level_of_a_generator_has_four_tuples(rt: HostRuntime) -> Result<(), Fail> {
     let level = level(rt.alloc(), "rank 2\ntuple b\n", 4)?;
-    assert_eq!(rt; level.tuples().len(), 4);
-    assert_eq!(rt; level.root().count(), 1);
+    assert!(rt; are_spelled(level.tuples(), &["a", "A", "b", "B"]));
+    assert!(rt; is_spelled(level.root(), "b"));
     assert_eq!(rt; level.place(level.root()), Some(2));
     Ok(())
 }
@@ -141,7 +189,7 @@ fn a_tree_leads_from_the_root(rt: HostRuntime) -> Result<(), Fail> {
     assert_eq!(rt; tree.parent.items().len(), 2);
     assert_eq!(rt; tree.parent.items()[0], None);
     assert_eq!(rt; tree.parent.items()[1], Some((0, swap)));
-    assert_eq!(rt; level.into_tuples().len(), 2);
+    assert!(rt; are_spelled(&level.into_tuples(), &["abAB", "aBAb"]));
     Ok(())
 }
 

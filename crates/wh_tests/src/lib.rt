@@ -6,6 +6,8 @@ mod certificates;
 #[cfg(test)]
 mod command_line;
 #[cfg(test)]
+mod devices;
+#[cfg(test)]
 mod graphs;
 #[cfg(test)]
 mod levels;

@@ -1,5 +1,5 @@
 //! Moves, their images and their action.
-use crate::support::{letter, letters, tuple};
+use crate::support::{is_spelled, letter, letters, tuple};
 use std::alloc::Global;
 use std::process::Abort;
 use std::test::Fail;
@@ -57,6 +57,9 @@ fn images_are_those_of_the_generators(rt: HostRuntime) -> Result<(), Fail> {
     image_is(&rt, alloc, &made, 2, "ca")?;
     let swap = Move::swap(rank, 1).ok_or("swap")?;
     assert!(rt; made != images(alloc, &swap)?);
+    assert!(rt; !made.is_identity());
+    let alone = Move::cut(rank, letter(b'a')?, LetterSet::of_bits(1)).ok_or("cut")?;
+    assert!(rt; images(alloc, &alone)?.is_identity());
     Ok(())
 }
 
@@ -78,13 +81,16 @@ fn a_tuple_is_made_in_the_room_of_another(rt: HostRuntime) -> Result<(), Fail> {
     let alloc = rt.alloc();
     let tuple = tuple(alloc, "rank 2\ntuple ab\n")?;
     let cut = Move::cut(tuple.rank(), letter(b'a')?, LetterSet::of_bits(9)).ok_or("cut")?;
-    let mut into = Tuple::with_room(alloc, tuple.rank(), 1, 2)?;
+    let mut into = Tuple::with_room(alloc, tuple.rank(), 64, 4096)?;
     assert_eq!(rt; cut.rank(), tuple.rank());
     assert!(rt; acted_length(&tuple, &cut) as usize <= into.room());
     assert!(rt; tuple.count() <= into.word_room());
     act_into(&tuple, &cut, &mut into);
     assert!(rt; into.same(&self::tuple(alloc, "rank 2\ntuple b\n")?));
-    assert_eq!(rt; into.room(), 2);
+    assert_eq!(rt; into.room(), 4096);
+    let copy = into.copy(alloc)?;
+    assert!(rt; copy.same(&into));
+    assert_eq!(rt; copy.room(), 1);
     Ok(())
 }
 
@@ -135,14 +141,12 @@ fn cuts_act_on_degenerate_words(rt: HostRuntime) -> Result<(), Fail> {
 
 #[test]
 fn lists_of_moves_act_one_after_the_other(rt: HostRuntime) -> Result<(), Fail> {
-    let alloc = rt.alloc();
-    let tuple = tuple(alloc, "rank 2\ntuple ab\n")?;
-    let swap = Move::swap(tuple.rank(), 1).ok_or("swap")?;
-    let invert = Move::invert(tuple.rank(), 2).ok_or("invert")?;
+    let rank = Rank::new(2).ok_or("rank")?;
+    let swap = Move::swap(rank, 1).ok_or("swap")?;
+    let invert = Move::invert(rank, 2).ok_or("invert")?;
+    let tuple = tuple(rt.alloc(), "rank 2\ntuple ab\n")?;
     assert_eq!(rt; swap.rank(), tuple.rank());
     assert_eq!(rt; invert.rank(), tuple.rank());
-    let acted = act_all(alloc, &tuple, &[swap, invert])?;
-    let expected = self::tuple(alloc, "rank 2\ntuple aB\n")?;
-    assert!(rt; acted.same(&expected));
+    assert!(rt; is_spelled(&act_all(rt.alloc(), &tuple, &[swap, invert])?, "aB"));
     Ok(())
 }

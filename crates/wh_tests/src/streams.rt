@@ -28,13 +28,15 @@ fn a_read_fault_writes_nothing(rt: HostRuntime) -> Result<(), Fail> {
 #[test]
 fn a_write_fault_leaves_a_front_of_the_text(rt: HostRuntime) -> Result<(), Fail> {
     let alloc = rt.alloc();
+    let fails = Vec::from_slice(alloc, &[2])?;
     let mut source = source(alloc, PROBLEM)?;
-    let mut sink = MemSink::new(alloc, 16, Vec::from_slice(alloc, &[2])?);
+    let mut sink = MemSink::new(alloc, 16, fails);
     assert_eq!(rt;
         run(alloc, &["reduce"], &mut source, &mut sink),
         Status::WriteFault
     );
     assert_eq!(rt; sink.held(), b"whitehead 1 redu".as_slice());
+    assert_eq!(rt; sink.sent(), b"".as_slice());
     assert_eq!(rt; sink.faults(), 1);
     Ok(())
 }
@@ -54,6 +56,7 @@ fn refused_words_read_nothing(rt: HostRuntime) -> Result<(), Fail> {
         Status::Refused
     );
     assert_eq!(rt; sink.held(), b"refused words\n".as_slice());
+    assert_eq!(rt; sink.sent(), sink.held());
     assert_eq!(rt; source.faults(), 0);
     Ok(())
 }

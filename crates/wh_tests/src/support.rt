@@ -34,6 +34,40 @@ pub(crate) fn word(alloc: Global, text: &str) -> Result<Word, Fail> {
     Ok(Word::reduce(alloc, &letters(alloc, text)?)?)
 }
 
+/// The byte that spells a letter.
+fn byte(letter: Letter) -> u8 {
+    let first = if letter.is_inverse() { b'A' } else { b'a' };
+    first + letter.generator() - 1
+}
+
+/// Whether a text spells the letters of all words of a tuple in one row.
+pub(crate) fn is_spelled(tuple: &Tuple, text: &str) -> bool {
+    let letters = tuple.letters();
+    let bytes = text.as_bytes();
+    if letters.len() != bytes.len() {
+        return false;
+    }
+    for k in 0..letters.len() {
+        if byte(letters[k]) != bytes[k] {
+            return false;
+        }
+    }
+    true
+}
+
+/// Whether texts spell the words of tuples, one by one.
+pub(crate) fn are_spelled(tuples: &[Tuple], texts: &[&str]) -> bool {
+    if tuples.len() != texts.len() {
+        return false;
+    }
+    for k in 0..tuples.len() {
+        if !is_spelled(&tuples[k], texts[k]) {
+            return false;
+        }
+    }
+    true
+}
+
 /// The tuple of a problem text.
 pub(crate) fn tuple(alloc: Global, text: &str) -> Result<Tuple, Fail> {
     match read_problem(alloc, Command::Reduce, text.as_bytes())? {

@@ -1,5 +1,5 @@
 //! Words, cyclic words and tuples.
-use crate::support::{letters, word};
+use crate::support::{letters, tuple, word};
 use std::alloc::Global;
 use std::process::Abort;
 use std::test::Fail;
@@ -87,25 +87,30 @@ fn lists_give_their_items_back(rt: HostRuntime) -> Result<(), Fail> {
     Ok(())
 }
 
-#[test]
-fn tuples_are_compared_by_their_words(rt: HostRuntime) -> Result<(), Fail> {
-    let alloc = rt.alloc();
-    let rank = Rank::new(3).ok_or("rank")?;
-    let empty = Tuple::of(alloc, rank, &[])?;
-    let roomy = Tuple::with_room(alloc, rank, 64, 4096)?;
-    assert!(rt; empty == roomy);
-    assert!(rt; empty.same(&roomy));
+/// Asserts whether two tuples of rank 3, as problem texts tell them, are equal.
+fn are_equal(
+    rt: &impl Abort,
+    alloc: Global,
+    one: &str,
+    other: &str,
+    equal: bool,
+) -> Result<(), Fail> {
+    let one = tuple(alloc, one)?;
+    let other = tuple(alloc, other)?;
+    assert_eq!(rt; one == other, equal);
+    assert_eq!(rt; one.same(&other), equal);
     Ok(())
 }
 
 #[test]
-fn a_copy_has_room_for_itself_alone(rt: HostRuntime) -> Result<(), Fail> {
+fn tuples_are_compared_by_their_words(rt: HostRuntime) -> Result<(), Fail> {
     let alloc = rt.alloc();
-    let rank = Rank::new(3).ok_or("rank")?;
-    let roomy = Tuple::with_room(alloc, rank, 64, 4096)?;
-    assert_eq!(rt; roomy.room(), 4096);
-    assert_eq!(rt; roomy.copy(alloc)?.room(), 0);
-    Ok(())
+    let text = "rank 3\ntuple ab c\n";
+    are_equal(&rt, alloc, text, "rank 3\ntuple ba c\n", true)?;
+    are_equal(&rt, alloc, text, "rank 3\ntuple c ab\n", false)?;
+    are_equal(&rt, alloc, text, "rank 3\ntuple a bc\n", false)?;
+    are_equal(&rt, alloc, text, "rank 3\ntuple ab\n", false)?;
+    are_equal(&rt, alloc, text, "rank 4\ntuple ab c\n", false)
 }
 
 #[test]

@@ -1,24 +1,28 @@
 -- A refusal of a byte names the first line that has a bad one, and the leftmost in it: for the law on bad bytes.
-use Rattle.std.proofs.Common.{◌≡◌, ℕ, ◌+◌, ◌==◌, ltb, Bool, true, false, cond, List, [], ◌∷◌, ◌++◌, length, sym, ap, ◌∙◌, refl, subst, arith, None, Some, inl, inr, Result, Ok, Err}
+use Rattle.std.proofs.Common.{◌≡◌, ℕ, ◌+◌, ◌==◌, ltb, Bool, true, false, cond, List, [], ◌∷◌, ◌++◌, length, sym, ap, ◌∙◌, subst, None, Some, inl, inr, Result, Ok, Err}
 use Rattle.std.specs.Prelude.{leb, ◌&&◌, codes}
 use Rattle.std.specs.declared.option.Option.{Option}
-use Rattle.std.specs.List.{All, sum_by}
-use Rattle.std.proofs.lemmas.List.Elements.{All-nil, All-cons}
-use Rattle.std.proofs.lemmas.Bool.{cases_Bool, cond-true, cond-false}
+use Rattle.std.specs.List.{sum_by}
 use Rattle.wh_words.specs.Tuples.{TupleData}
+use Rattle.wh_lines.specs.declared.read_error.ReadError.{ReadError}
+use Rattle.wh_lines.specs.declared.read_error.ReadError.TheVariants as errors
+use Rattle.wh_lines.specs.Lines.{Field, lines, are}
+use Rattle.wh_lines.specs.Readings.{◌>>=◌, items_at, refused_as}
+use Rattle.wh_lines.specs.Numbers.{number}
+use Rattle.wh_lines.specs.KeptLines.{Kept, Rest}
+use Rattle.wh_lines.specs.KeptLines.Rest.{line, bad_byte, end}
+use Rattle.wh_lines.specs.LineReadings.{Reading, start, line_of, line_after}
+use Rattle.wh_lines.proofs.Equations.{bind_ok, bind_err, ok_is, refused_ok}
+use Rattle.wh_lines.proofs.NextLines.{line_told}
+use Rattle.wh_lines.proofs.BadBytes.{IsBadAt, first_bad}
+use Rattle.wh_fields.specs.Words.{letter_of, letter_at, letters_at, word_at}
+use Rattle.wh_fields.specs.TupleFields.{words_at, short_tuple, tuple_at}
 use Rattle.wh_text.specs.declared.command.Command.{Command}
 use Rattle.wh_text.specs.declared.command.Command.TheVariants as commands
-use Rattle.wh_text.specs.declared.read_error.ReadError.{ReadError}
-use Rattle.wh_text.specs.declared.read_error.ReadError.TheVariants as errors
-use Rattle.wh_text.specs.Lines.{Field, lines, is_allowed, bad_at, is_comment, fields}
-use Rattle.wh_text.specs.Readings.{◌>>=◌}
-use Rattle.wh_text.specs.Numbers.{number}
-use Rattle.wh_text.specs.Spellings.{are, letter_of, letter_at, letters_at, word_at}
-use Rattle.wh_text.specs.TupleLines.{items_at, words_at, short_tuple, tuple_at}
-use Rattle.wh_text.specs.Problems.{Sheet, ProblemData, blank_sheet, most_bytes, greatest_rank, rank_at, rank_number, allowed_rank, kept_line, line_of_fields, line_at, lines_at, decide, one_tuple, two_tuples, decide_both, problem_with, whole, problem}
-use Rattle.wh_text.specs.Laws.{IsClean, NamesTheFirstBadByte}
-use Rattle.wh_text.proofs.Equations.{bind_err}
-use Rattle.wh_text.proofs.ToldLines.{good_line, line_good, bad_clean}
+use Rattle.wh_text.specs.RankLines.{greatest_rank, rank_at, rank_number, allowed_rank, no_rank, rank_after}
+use Rattle.wh_text.specs.Problems.{decide, tuple_line, tuples_of, one_tuple, two_tuples, decide_both, problem_with, problem_after, problem}
+use Rattle.wh_text.specs.Limits.{most_problem_bytes}
+use Rattle.wh_text.specs.Laws.{NamesTheFirstBadByte, IsFirstBadByte}
 
 -- ---- what other readers refuse is no byte
 abbrev pub IsOther : ReadError → Type 0
@@ -74,18 +78,8 @@ rank_other command l [] = tt
 rank_other command l (f ∷ []) = number_other command l (number f.bytes)
 rank_other command l (f ∷ g ∷ fs) = tt
 
-kept_other : (command : Command) (l : ℕ) (s : Sheet) (o : Option ℕ) (keyword : Field) (fs : List Field) → RefusesOther (kept_line command l s o keyword fs)
-kept_other command l s None keyword fs =
-    cond_other (are keyword.bytes (codes "rank")) (rank_at command l fs >>= λ n. Ok (record { rank = Some n; tuples = s.tuples })) (Err (errors.NoRank l))
-    (bind_other (rank_at command l fs) (λ n. Ok (record { rank = Some n; tuples = s.tuples })) (rank_other command l fs) (λ n. tt)) tt
-kept_other command l s (Some n) keyword fs =
-    cond_other (are keyword.bytes (codes "tuple")) (tuple_at n l fs >>= λ t. Ok (record { rank = s.rank; tuples = s.tuples ++ t ∷ [] })) (Err (errors.BadLine l))
-    (bind_other (tuple_at n l fs) (λ t. Ok (record { rank = s.rank; tuples = s.tuples ++ t ∷ [] })) (tuple_other n l fs) (λ t. tt)) tt
-
-fields_other : (command : Command) (l : ℕ) (s : Sheet) (fs : List Field) → RefusesOther (line_of_fields command l s fs)
-unfolding line_of_fields
-fields_other command l s [] = tt
-fields_other command l s (keyword ∷ fs) = kept_other command l s s.rank keyword fs
+line_other : (n : ℕ) (k : Kept) → RefusesOther (tuple_line n k)
+line_other n k = cond_other (are k.keyword (codes "tuple")) (tuple_at n k.number k.fields) (Err (errors.BadLine k.number)) (tuple_other n k.number k.fields) tt
 
 one_other : (ts : List TupleData) → RefusesOther (one_tuple ts)
 one_other [] = tt
@@ -105,104 +99,92 @@ with_other : (command : Command) (ts : List TupleData) → RefusesOther (problem
 with_other commands.Reduce ts = bind_other (one_tuple ts) _ (one_other ts) (λ t. tt)
 with_other commands.Decide ts = bind_other (two_tuples ts) _ (two_other ts) (λ p. both_other p.0 p.1)
 
-whole_other : (command : Command) (end : ℕ) (ts : List TupleData) (o : Option ℕ) → RefusesOther (whole command end ts o)
-whole_other command end ts None = tt
-whole_other command end ts (Some n) = with_other command ts
-
 not_other : {A : Type 0} (r : Result A ReadError) (l c : ℕ) → RefusesOther r → r ≡ Err (errors.BadByte l c) → ⊥
 not_other r l c h e = subst RefusesOther e h
 
--- ---- the leftmost bad byte of a line
-record IsLeftmost (c : ℕ) (line : List ℕ) (column : ℕ) : Type 0 where
-  front : List ℕ
-  bad : ℕ
-  back : List ℕ
-  parts : line ≡ front ++ bad ∷ back
-  place : column ≡ length front + c
-  clean : IsClean front
-  is_bad : is_allowed bad ≡ false
+-- ---- what is left has the bad byte
+tuples_bad : (n : ℕ) (r : Rest) (l c : ℕ) → tuples_of n r ≡ Err (errors.BadByte l c) → IsBadAt l c r
+unfolding tuples_of
+tuples_bad n (line k later) l c e =
+    elim (bind_err (tuple_line n k) (λ t. tuples_of n later >>= λ ts. Ok (t ∷ ts)) (errors.BadByte l c) e) [
+      | inl here ↦ absurd (not_other (tuple_line n k) l c (line_other n k) here)
+      | inr there ↦ elim (bind_err (tuples_of n later) (λ ts. Ok (there.0 ∷ ts)) (errors.BadByte l c) there.2) [
+        | inl later_bad ↦ tuples_bad n later l c later_bad
+        | inr never ↦ absurd (cc)
+      ]
+    ]
+tuples_bad n (bad_byte m d) l c e = ((cc), (cc))
+tuples_bad n (end m) l c e = absurd (cc)
 
-leftmost : (c column : ℕ) (line : List ℕ) → bad_at c line ≡ Some column → IsLeftmost c line column
-leftmost c column [] e = absurd (cc)
-leftmost c column (b ∷ bs) e = elim (cases_Bool (is_allowed b)) [
-  | inl t ↦ (let r = leftmost (c + 1) column bs (sym (cond-true (is_allowed b) (bad_at (c + 1) bs) (Some c) t) ∙ e) in
-      record { front = b ∷ r.front; bad = r.bad; back = r.back; parts = ap (λ v. b ∷ v) r.parts; place = omega (arith, r.place); clean = All-cons (λ b. is_allowed b ≡ true) b r.front t r.clean; is_bad = r.is_bad })
-  | inr f ↦ (let same : ◌≡◌ {A = Option ℕ} (Some c) (Some column) = sym (cond-false (is_allowed b) (bad_at (c + 1) bs) (Some c) f) ∙ e in
-      let place : c ≡ column = (cc) in
-      record { front = []; bad = b; back = bs; parts = refl; place = omega (arith, place); clean = All-nil (λ b. is_allowed b ≡ true); is_bad = f })
-]
+no_rank_bad : {A : Type 0} (r : Result A ReadError) (l c : ℕ) → refused_as no_rank r ≡ Err (errors.BadByte l c) → r ≡ Err (errors.BadByte l c)
+no_rank_bad (Ok x) l c e = absurd (cc)
+no_rank_bad (Err (errors.InputTooLong limit)) l c e = e
+no_rank_bad (Err (errors.BadByte m d)) l c e = e
+no_rank_bad (Err (errors.NoRank m)) l c e = e
+no_rank_bad (Err (errors.RankRange m)) l c e = e
+no_rank_bad (Err (errors.LevelRank m)) l c e = e
+no_rank_bad (Err (errors.BadLine m)) l c e = absurd (cc)
+no_rank_bad (Err (errors.TooManyWords m count)) l c e = e
+no_rank_bad (Err (errors.BadLetter m d)) l c e = e
+no_rank_bad (Err (errors.LongTuple m length)) l c e = e
+no_rank_bad (Err (errors.TupleCount expected found)) l c e = e
+no_rank_bad (Err (errors.SizeMismatch first second)) l c e = e
+no_rank_bad (Err (errors.NoCertificate m)) l c e = e
+no_rank_bad (Err errors.OutOfMemory) l c e = e
 
-good_bad : (command : Command) (l : ℕ) (s : Sheet) (line : List ℕ) (m column : ℕ) (o : Option ℕ) → bad_at 1 line ≡ o → good_line command l s line o ≡ Err (errors.BadByte m column) → (m ≡ l) × IsLeftmost 1 line column
-good_bad command l s line m column None e h =
-    absurd (not_other _ m column (cond_other (is_comment line) (Ok s) (line_of_fields command l s (fields 1 line)) tt (fields_other command l s (fields 1 line))) h)
-good_bad command l s line m column (Some c) e h =
-    let here : l ≡ m = (cc) in
-    let place : c ≡ column = (cc) in
-    (sym here, leftmost 1 column line (e ∙ ap (λ k. Some k) place))
+line_bad : (keyword taken : List ℕ) (r : Rest) (l c : ℕ) → line_of keyword taken r ≡ Err (errors.BadByte l c) → IsBadAt l c r
+line_bad keyword taken (line k later) l c e = absurd (not_other (line_of keyword taken (line k later)) l c (cond_other (are k.keyword keyword) (Ok (k, record { taken = taken ++ k.number ∷ []; rest = later })) (Err (errors.BadLine k.number)) tt tt) e)
+line_bad keyword taken (bad_byte m d) l c e = ((cc), (cc))
+line_bad keyword taken (end m) l c e = absurd (cc)
 
-line_bad : (command : Command) (l : ℕ) (s : Sheet) (line : List ℕ) (m column : ℕ) → line_at command l s line ≡ Err (errors.BadByte m column) → (m ≡ l) × IsLeftmost 1 line column
-line_bad command l s line m column h = good_bad command l s line m column (bad_at 1 line) refl (sym (line_good command l s line) ∙ h)
-
-good_clean : (command : Command) (l : ℕ) (s t : Sheet) (line : List ℕ) (o : Option ℕ) → bad_at 1 line ≡ o → good_line command l s line o ≡ Ok t → IsClean line
-good_clean command l s t line None e h = bad_clean 1 line e
-good_clean command l s t line (Some c) e h = absurd (cc)
-
-line_clean : (command : Command) (l : ℕ) (s t : Sheet) (line : List ℕ) → line_at command l s line ≡ Ok t → IsClean line
-line_clean command l s t line h = good_clean command l s t line (bad_at 1 line) refl (sym (line_good command l s line) ∙ h)
-
--- ---- the first line with a bad byte
--- line m, where the first of these lines has number l
-record IsFirst (l : ℕ) (ls : List (List ℕ)) (m column : ℕ) : Type 0 where
-  lines_before : List (List ℕ)
-  line : List ℕ
-  lines_after : List (List ℕ)
-  parts : ls ≡ lines_before ++ line ∷ lines_after
-  place : m ≡ length lines_before + l
-  clean : All IsClean lines_before
-  leftmost : IsLeftmost 1 line column
-
-first : (command : Command) (l : ℕ) (s : Sheet) (ls : List (List ℕ)) (m column : ℕ) → lines_at command l s ls ≡ Err (errors.BadByte m column) → IsFirst l ls m column
-unfolding lines_at
-first command l s [] m column e = absurd (cc)
-first command l s (line ∷ ls) m column e =
-    elim (bind_err (line_at command l s line) (λ t. lines_at command (l + 1) t ls) (errors.BadByte m column) e) [
-      | inl here ↦ (let p = line_bad command l s line m column here in
-          record { lines_before = []; line = line; lines_after = ls; parts = refl; place = omega (arith, p.0); clean = All-nil IsClean; leftmost = p.1 })
-      | inr later ↦ (let r = first command (l + 1) later.0 ls m column later.2 in
-          record {
-            lines_before = line ∷ r.lines_before;
-            line = r.line;
-            lines_after = r.lines_after;
-            parts = ap (λ v. line ∷ v) r.parts;
-            place = omega (arith, r.place);
-            clean = All-cons IsClean line r.lines_before (line_clean command l s later.0 line later.1) r.clean;
-            leftmost = r.leftmost;
-          })
+rank_bad : (command : Command) (p : Reading) (l c : ℕ) → rank_after command p ≡ Err (errors.BadByte l c) → IsBadAt l c p.rest
+unfolding rank_after line_after
+rank_bad command p l c e =
+    let next : Kept × Reading → Result (ℕ × Reading) ReadError = λ k. rank_at command k.0.number k.0.fields >>= λ n. Ok (n, k.1) in
+    elim (bind_err (refused_as no_rank (line_after (codes "rank") p)) next (errors.BadByte l c) e) [
+      | inl here ↦ line_bad (codes "rank") p.taken p.rest l c (no_rank_bad (line_after (codes "rank") p) l c here)
+      | inr there ↦ absurd (not_other (next there.0) l c (bind_other (rank_at command there.0.0.number there.0.0.fields) (λ n. Ok (n, there.0.1)) (rank_other command there.0.0.number there.0.0.fields) (λ n. tt)) there.2)
     ]
 
-in_size : (t : Bool) (limit m column : ℕ) (r : Result ProblemData ReadError) → cond t (Err (errors.InputTooLong limit)) r ≡ Err (errors.BadByte m column) → r ≡ Err (errors.BadByte m column)
-in_size true limit m column r e = absurd (cc)
-in_size false limit m column r e = e
+-- where the rank is read, the bad byte is behind its line
+behind_bad : (command : Command) (p : Reading) (n : ℕ × Reading) (l c : ℕ) → rank_after command p ≡ Ok n → IsBadAt l c n.1.rest → IsBadAt l c p.rest
+unfolding rank_after
+behind_bad command p n l c e h =
+    let next : Kept × Reading → Result (ℕ × Reading) ReadError = λ k. rank_at command k.0.number k.0.fields >>= λ n. Ok (n, k.1) in
+    let a = bind_ok (refused_as no_rank (line_after (codes "rank") p)) next n e in
+    let told = line_told (codes "rank") p a.0 (refused_ok no_rank (line_after (codes "rank") p) a.0 a.1) in
+    let b = bind_ok (rank_at command a.0.0.number a.0.0.fields) (λ n. Ok (n, a.0.1)) n a.2 in
+    subst (λ (r : Rest). IsBadAt l c r) (sym (told.0 ∙ ap (λ (x : ℕ × Reading). line a.0.0 x.1.rest) (ok_is (b.0, a.0.1) n b.2))) h
+
+lines_bad : (command : Command) (p : Reading) (l c : ℕ) → problem_after command p ≡ Err (errors.BadByte l c) → IsBadAt l c p.rest
+unfolding problem_after
+lines_bad command p l c e =
+    elim (bind_err (rank_after command p) (λ n. tuples_of n.0 n.1.rest >>= λ ts. problem_with command ts) (errors.BadByte l c) e) [
+      | inl here ↦ rank_bad command p l c here
+      | inr there ↦ elim (bind_err (tuples_of there.0.0 there.0.1.rest) (λ ts. problem_with command ts) (errors.BadByte l c) there.2) [
+        | inl bad ↦ behind_bad command p there.0 l c there.1 (tuples_bad there.0.0 there.0.1.rest l c bad)
+        | inr never ↦ absurd (not_other (problem_with command never.0) l c (with_other command never.0) never.2)
+      ]
+    ]
 
 pub first_bad_byte : NamesTheFirstBadByte
 unfolding problem
-first_bad_byte command bytes m column e =
-    let lines_read = lines_at command 1 blank_sheet (lines bytes) in
-    let r = elim (bind_err lines_read (λ s. whole command s.1 s.0.tuples s.0.rank) (errors.BadByte m column)
-    (in_size (ltb most_bytes (length bytes)) most_bytes m column (lines_read >>= λ s. whole command s.1 s.0.tuples s.0.rank) e)) as (λ _. IsFirst 1 (lines bytes) m column) [
-      | inl here ↦ first command 1 blank_sheet (lines bytes) m column here
-      | inr later ↦ absurd (not_other (whole command later.0.1 later.0.0.tuples later.0.0.rank) m column (whole_other command later.0.1 later.0.0.tuples later.0.0.rank) later.2)
-    ] in
-    record {
-      lines_before = r.lines_before;
-      front = r.leftmost.front;
-      bad = r.leftmost.bad;
-      back = r.leftmost.back;
-      lines_after = r.lines_after;
-      parts = r.parts ∙ ap (λ v. r.lines_before ++ v ∷ r.lines_after) r.leftmost.parts;
-      line = r.place;
-      place = r.leftmost.place;
-      clean_before = r.clean;
-      clean_front = r.leftmost.clean;
-      is_bad = r.leftmost.is_bad;
-    }
+first_bad_byte command bytes l column e = by (ltb most_problem_bytes (length bytes)) e
+  where
+    by : (t : Bool) → cond t (Err (errors.InputTooLong most_problem_bytes)) (problem_after command (start bytes)) ≡ Err (errors.BadByte l column) → IsFirstBadByte bytes l column
+    by true e = absurd (cc)
+    by false e =
+        let r = first_bad 1 l column (lines bytes) (lines_bad command (start bytes) l column e) in
+        record {
+          lines_before = r.lines_before;
+          front = r.leftmost.front;
+          bad = r.leftmost.bad;
+          back = r.leftmost.back;
+          lines_after = r.lines_after;
+          parts = r.parts ∙ ap (λ v. r.lines_before ++ v ∷ r.lines_after) r.leftmost.parts;
+          line = r.place;
+          place = r.leftmost.place;
+          clean_before = r.clean;
+          clean_front = r.leftmost.clean;
+          is_bad = r.leftmost.is_bad;
+        }

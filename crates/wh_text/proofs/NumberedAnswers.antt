@@ -1,70 +1,61 @@
 -- A certificate that was read is numbered: its parts are of one rank, and each line and each `flow` line is counted.
-use Rattle.std.proofs.Common.{◌≡◌, ℕ, ◌+◌, ◌*◌, ◌≤◌, leb, ltb, ◌==◌, true, cond, List, [], ◌∷◌, ◌++◌, length, sym, ap, ◌∙◌, refl, subst, arith, None, Some, Result, Ok, Err, length-append}
+use Rattle.std.proofs.Common.{◌≡◌, ℕ, ◌+◌, ◌*◌, ◌≤◌, leb, ltb, ◌==◌, true, cond, List, [], ◌++◌, length, sym, ap, ◌∙◌, refl, subst, arith, None, Some, Result, Ok, Err, length-append}
 use Rattle.std.specs.Prelude.{codes}
 use Rattle.std.specs.declared.option.Option.{Option}
 use Rattle.std.specs.List.{All}
 use Rattle.std.proofs.lemmas.List.{length-map}
-use Rattle.std.proofs.lemmas.List.Elements.{All-nil, All-cons}
 use Rattle.std.proofs.lemmas.Bool.Decides.{nat_tests}
 use Rattle.wh_words.specs.Tuples.{TupleData}
 use Rattle.wh_words.specs.Moves.{Move, Kind}
 use Rattle.wh_text.specs.declared.command.Command.{Command}
 use Rattle.wh_text.specs.declared.command.Command.TheVariants as commands
-use Rattle.wh_text.specs.declared.read_error.ReadError.{ReadError}
-use Rattle.wh_text.specs.declared.read_error.ReadError.TheVariants as errors
-use Rattle.wh_text.specs.Lines.{Field, lines}
-use Rattle.wh_text.specs.Readings.{◌>>=◌}
-use Rattle.wh_text.specs.MoveFields.{kind_in}
-use Rattle.wh_text.specs.FlowFields.{FlowData, flow_in}
-use Rattle.wh_text.specs.TupleLines.{items_at, tuple_at}
-use Rattle.wh_text.specs.Problems.{greatest_rank, allowed_rank}
-use Rattle.wh_text.specs.KeptLines.{Place, Kept, line_after, end_after, times}
+use Rattle.wh_lines.specs.declared.read_error.ReadError.{ReadError}
+use Rattle.wh_lines.specs.declared.read_error.ReadError.TheVariants as errors
+use Rattle.wh_lines.specs.Lines.{Field, lines}
+use Rattle.wh_lines.specs.Readings.{◌>>=◌, items_at, or_bad_line, refused_as}
+use Rattle.wh_fields.specs.MoveFields.{kind_in, move_with, move_at}
+use Rattle.wh_fields.specs.FlowFields.{FlowData, flow_in}
+use Rattle.wh_fields.specs.TupleFields.{tuple_at}
+use Rattle.wh_text.specs.RankLines.{greatest_rank, rank_at, no_rank, rank_after}
+use Rattle.wh_lines.specs.KeptLines.{Kept}
+use Rattle.wh_lines.specs.LineReadings.{Reading, start, line_after, end_after, times}
 use Rattle.wh_text.specs.AnswerData.{CertificateData}
 use Rattle.wh_text.specs.AnswerData.VerdictData.{yes, no_length, no_level}
 use Rattle.wh_text.specs.AnswerData.AnswerData.{reduce, decide}
-use Rattle.wh_text.specs.Certificates.{most_certificate_bytes, or_bad_line, or_bad_tuple, tuple_after, like_after, move_with, move_at, moves_after, flow_after, SideRead, side_with, side_after, number_in, level_after, VerdictWord, VerdictRead, yes_after, sides_after, no_length_after, no_level_after, verdict_in, verdict_with, verdict_after, AnswerRead, reduced_after, decided_after, answer_with, heading_in, heading_after, rank_after, done_after, answer_after, certificate}
+use Rattle.wh_text.specs.Certificates.{tuple_after, like_after, moves_after, flow_after, SideRead, side_with, side_after, number_in, level_after, VerdictWord, VerdictRead, yes_after, sides_after, no_length_after, no_level_after, verdict_in, verdict_with, verdict_after, AnswerRead, reduced_after, decided_after, answer_with, heading_in, heading_after, in_answer, with_end, done_after, answer_after, certificate}
+use Rattle.wh_text.specs.Limits.{most_answer_bytes}
 use Rattle.wh_text.specs.Certificates.VerdictWord.{a_yes, a_no_length, a_no_level}
 use Rattle.wh_text.specs.Numberings.{IsSideOfRank, IsVerdictOfRank, IsAnswerOfOneRank, side_lines, verdict_lines, answer_lines, verdict_flows, flow_lines, IsNumbered}
-use Rattle.wh_text.proofs.Equations.{bind_ok, ok_is, ok_same, unless_ok, if_ok}
-use Rattle.wh_text.proofs.TupleLaws.{tuple_made}
-use Rattle.wh_text.proofs.TakenLines.{kept_from, line_taken, end_taken, Took, one_line, times_took}
+use Rattle.wh_lines.proofs.Equations.{bind_ok, ok_is, ok_same, unless_ok, if_ok, refused_ok}
+use Rattle.wh_text.proofs.RankLaws.{rank_is}
+use Rattle.wh_fields.proofs.TupleLaws.{tuple_made}
+use Rattle.wh_lines.proofs.TakenLines.{line_taken, end_taken, Took, one_line, times_took}
+use Rattle.wh_lines.proofs.ItemReadings.{items_told}
 
 -- ---- tuples
-tuple_rank : (n l : ℕ) (fs : List Field) (r : Result TupleData ReadError) (t : TupleData) → r ≡ tuple_at n l fs → or_bad_tuple l r ≡ Ok t → t.rank ≡ n
-tuple_rank n l fs (Ok u) t is e = ap (λ (v : TupleData). v.rank) (tuple_made n l fs t (sym is ∙ e)).cyclic
-tuple_rank n l fs (Err d) t is e = absurd (cc)
+tuple_rank : (n l : ℕ) (fs : List Field) (t : TupleData) → refused_as in_answer (tuple_at n l fs) ≡ Ok t → t.rank ≡ n
+tuple_rank n l fs t e = ap (λ (v : TupleData). v.rank) (tuple_made n l fs t (refused_ok in_answer (tuple_at n l fs) t e)).cyclic
 
-tuple_took : (keyword : List ℕ) (n : ℕ) (p : Place) (r : TupleData × Place) → tuple_after keyword n p ≡ Ok r → Took (λ t. t.rank ≡ n) 1 p r
+tuple_took : (keyword : List ℕ) (n : ℕ) (p : Reading) (r : TupleData × Reading) → tuple_after keyword n p ≡ Ok r → Took (λ t. t.rank ≡ n) 1 p r
 unfolding tuple_after
 tuple_took keyword n p r e =
-    one_line (λ (t : TupleData). t.rank ≡ n) keyword (λ k. or_bad_tuple k.0.number (tuple_at n k.0.number k.0.fields) >>= λ t. Ok (t, k.1)) p r (λ k h.
-    let read = tuple_at n k.0.number k.0.fields in
-    let a = bind_ok (or_bad_tuple k.0.number read) (λ t. Ok (t, k.1)) r h in
-    (a.0, tuple_rank n k.0.number k.0.fields read a.0 refl a.1, a.2)) e
+    one_line (λ (t : TupleData). t.rank ≡ n) keyword (λ k. refused_as in_answer (tuple_at n k.0.number k.0.fields) >>= λ t. Ok (t, k.1)) p r (λ k h.
+    let a = bind_ok (refused_as in_answer (tuple_at n k.0.number k.0.fields)) (λ t. Ok (t, k.1)) r h in
+    (a.0, tuple_rank n k.0.number k.0.fields a.0 a.1, a.2)) e
 
-like_took : (keyword : List ℕ) (n count : ℕ) (p : Place) (r : TupleData × Place) → like_after keyword n count p ≡ Ok r → Took (λ t. t.rank ≡ n) 1 p r
+like_took : (keyword : List ℕ) (n count : ℕ) (p : Reading) (r : TupleData × Reading) → like_after keyword n count p ≡ Ok r → Took (λ t. t.rank ≡ n) 1 p r
 unfolding like_after
 like_took keyword n count p r e =
-    let next : Kept × Place → TupleData → Result (TupleData × Place) ReadError = λ k t. cond (length t.words == count) (Ok (t, k.1)) (Err (errors.BadLine k.0.number)) in
-    one_line (λ (t : TupleData). t.rank ≡ n) keyword (λ k. or_bad_tuple k.0.number (tuple_at n k.0.number k.0.fields) >>= next k) p r (λ k h.
-    let read = tuple_at n k.0.number k.0.fields in
-    let a = bind_ok (or_bad_tuple k.0.number read) (next k) r h in
-    (a.0, tuple_rank n k.0.number k.0.fields read a.0 refl a.1, (if_ok (length a.0.words == count) (errors.BadLine k.0.number) (Ok (a.0, k.1)) r a.2).1)) e
-
--- ---- moves
-items_told : {A : Type 0} (IsTold : A → Type 0) (item : Field → Result A ReadError) → ((f : Field) (x : A) → item f ≡ Ok x → IsTold x) → (fs : List Field) (xs : List A) → items_at item fs ≡ Ok xs → All IsTold xs
-unfolding items_at
-items_told IsTold item one [] xs e = ok_same (All IsTold) [] xs e (All-nil IsTold)
-items_told IsTold item one (f ∷ fs) xs e =
-    let a = bind_ok (item f) (λ x. items_at item fs >>= λ ys. Ok (x ∷ ys)) xs e in
-    let b = bind_ok (items_at item fs) (λ ys. Ok (a.0 ∷ ys)) xs a.2 in
-    ok_same (All IsTold) (a.0 ∷ b.0) xs b.2 (All-cons IsTold a.0 b.0 (one f a.0 a.1) (items_told IsTold item one fs b.0 b.1))
+    let next : Kept × Reading → TupleData → Result (TupleData × Reading) ReadError = λ k t. cond (length t.words == count) (Ok (t, k.1)) (Err (errors.BadLine k.0.number)) in
+    one_line (λ (t : TupleData). t.rank ≡ n) keyword (λ k. refused_as in_answer (tuple_at n k.0.number k.0.fields) >>= next k) p r (λ k h.
+    let a = bind_ok (refused_as in_answer (tuple_at n k.0.number k.0.fields)) (next k) r h in
+    (a.0, tuple_rank n k.0.number k.0.fields a.0 a.1, (if_ok (length a.0.words == count) (errors.BadLine k.0.number) (Ok (a.0, k.1)) r a.2).1)) e
 
 kind_rank : (n l : ℕ) (o : Option Kind) (m : Move) → or_bad_line l (move_with n o) ≡ Ok m → m.rank ≡ n
 kind_rank n l None m e = absurd (cc)
 kind_rank n l (Some kind) m e = sym (ap (λ (v : Move). v.rank) (ok_is (record { rank = n; kind = kind }) m e))
 
-moves_took : (keyword : List ℕ) (n : ℕ) (p : Place) (r : List Move × Place) → moves_after keyword n p ≡ Ok r → Took (All (λ m. m.rank ≡ n)) 1 p r
+moves_took : (keyword : List ℕ) (n : ℕ) (p : Reading) (r : List Move × Reading) → moves_after keyword n p ≡ Ok r → Took (All (λ m. m.rank ≡ n)) 1 p r
 unfolding moves_after
 moves_took keyword n p r e =
     one_line (All (λ m. m.rank ≡ n)) keyword (λ k. items_at (move_at n k.0.number) k.0.fields >>= λ ms. Ok (ms, k.1)) p r (λ k h.
@@ -72,7 +63,7 @@ moves_took keyword n p r e =
     (a.0, items_told (λ m. m.rank ≡ n) (move_at n k.0.number) (λ f m. kind_rank n k.0.number (kind_in n f.bytes) m) k.0.fields a.0 a.1, a.2)) e
 
 -- ---- sides
-flow_took : (n : ℕ) (p : Place) (r : FlowData × Place) → flow_after n p ≡ Ok r → Took (λ _. Unit {0}) 1 p r
+flow_took : (n : ℕ) (p : Reading) (r : FlowData × Reading) → flow_after n p ≡ Ok r → Took (λ _. Unit {0}) 1 p r
 unfolding flow_after
 flow_took n p r e =
     one_line (λ (_ : FlowData). Unit {0}) (codes "flow") (λ k. or_bad_line k.0.number (flow_in n k.0.fields) >>= λ f. Ok (f, k.1)) p r (λ k h.
@@ -83,7 +74,7 @@ flow_took n p r e =
 abbrev IsSideRead : ℕ → SideRead → Type 0
 IsSideRead n s = IsSideOfRank n s.side × (length s.heads ≡ n)
 
-side_took : (n count : ℕ) (p : Place) (r : SideRead × Place) → side_after n count p ≡ Ok r → Took (IsSideRead n) (side_lines n) p r
+side_took : (n count : ℕ) (p : Reading) (r : SideRead × Reading) → side_after n count p ≡ Ok r → Took (IsSideRead n) (side_lines n) p r
 unfolding side_after
 side_took n count p r e =
     let a = bind_ok (moves_after (codes "trace") n p) (λ ms. like_after (codes "end") n count ms.1 >>= λ t. times (flow_after n) n t.1 >>= λ fs. Ok (side_with ms.0 t.0 fs.0, fs.1)) r e in
@@ -103,7 +94,7 @@ side_took n count p r e =
 abbrev AreSidesRead : ℕ → SideRead × SideRead → Type 0
 AreSidesRead n s = IsSideRead n s.0 × IsSideRead n s.1
 
-sides_took : (n count : ℕ) (p : Place) (r : (SideRead × SideRead) × Place) → sides_after n count p ≡ Ok r → Took (AreSidesRead n) (2 * side_lines n) p r
+sides_took : (n count : ℕ) (p : Reading) (r : (SideRead × SideRead) × Reading) → sides_after n count p ≡ Ok r → Took (AreSidesRead n) (2 * side_lines n) p r
 unfolding sides_after
 sides_took n count p r e =
     let a = bind_ok (side_after n count p) (λ s. side_after n count s.1 >>= λ t. Ok ((s.0, t.0), t.1)) r e in
@@ -113,7 +104,7 @@ sides_took n count p r e =
     ok_same (Took (AreSidesRead n) (2 * side_lines n) p) ((a.0.0, b.0.0), b.0.1) r b.2 (record { told = (first.told, second.told); lines = omega (arith, first.lines, second.lines) })
 
 -- ---- verdicts
-level_took : (n count : ℕ) (p : Place) (r : List TupleData × Place) → level_after n count p ≡ Ok r → Took (All (λ t. t.rank ≡ n)) (1 + length r.0) p r
+level_took : (n count : ℕ) (p : Reading) (r : List TupleData × Reading) → level_after n count p ≡ Ok r → Took (All (λ t. t.rank ≡ n)) (1 + length r.0) p r
 unfolding level_after
 level_took n count p r e =
     let a = bind_ok (line_after (codes "level") p) (λ k. or_bad_line k.0.number (number_in 1 131072 k.0.fields) >>= λ size. times (like_after (codes "at") n count) size k.1) r e in
@@ -125,26 +116,26 @@ level_took n count p r e =
 abbrev IsVerdictRead : ℕ → VerdictRead → Type 0
 IsVerdictRead n v = IsVerdictOfRank n v.verdict × (length v.heads ≡ verdict_flows n v.verdict)
 
-abbrev TookVerdict : ℕ → Place → VerdictRead × Place → Type 0
+abbrev TookVerdict : ℕ → Reading → VerdictRead × Reading → Type 0
 TookVerdict n p r = Took (IsVerdictRead n) (verdict_lines n r.0.verdict) p r
 
 two_heads : (n : ℕ) (s : SideRead × SideRead) → AreSidesRead n s → length (s.0.heads ++ s.1.heads) ≡ 2 * n
 two_heads n s h = omega (arith, length-append s.0.heads s.1.heads, h.0.1, h.1.1)
 
-yes_took : (n : ℕ) (p : Place) (r : VerdictRead × Place) → yes_after n p ≡ Ok r → TookVerdict n p r
+yes_took : (n : ℕ) (p : Reading) (r : VerdictRead × Reading) → yes_after n p ≡ Ok r → TookVerdict n p r
 yes_took n p r e =
     let a = bind_ok (moves_after (codes "moves") n p) (λ ms. Ok (record { verdict = yes ms.0; heads = [] }, ms.1)) r e in
     let moves = moves_took (codes "moves") n p a.0 a.1 in
     ok_same (TookVerdict n p) (record { verdict = yes a.0.0; heads = [] }, a.0.1) r a.2 (record { told = (moves.told, refl); lines = moves.lines })
 
-no_length_took : (n count : ℕ) (p : Place) (r : VerdictRead × Place) → no_length_after n count p ≡ Ok r → TookVerdict n p r
+no_length_took : (n count : ℕ) (p : Reading) (r : VerdictRead × Reading) → no_length_after n count p ≡ Ok r → TookVerdict n p r
 no_length_took n count p r e =
     let a = bind_ok (sides_after n count p) (λ s. Ok (record { verdict = no_length s.0.0.side s.0.1.side; heads = s.0.0.heads ++ s.0.1.heads }, s.1)) r e in
     let sides = sides_took n count p a.0 a.1 in
     ok_same (TookVerdict n p) (record { verdict = no_length a.0.0.0.side a.0.0.1.side; heads = a.0.0.0.heads ++ a.0.0.1.heads }, a.0.1) r a.2
     (record { told = ((sides.told.0.0, sides.told.1.0), two_heads n a.0.0 sides.told); lines = sides.lines })
 
-no_level_took : (n count : ℕ) (p : Place) (r : VerdictRead × Place) → n ≤ 6 → no_level_after n count p ≡ Ok r → TookVerdict n p r
+no_level_took : (n count : ℕ) (p : Reading) (r : VerdictRead × Reading) → n ≤ 6 → no_level_after n count p ≡ Ok r → TookVerdict n p r
 no_level_took n count p r small e =
     let a = bind_ok (sides_after n count p) (λ s. level_after n count s.1 >>= λ ts. Ok (record { verdict = no_level s.0.0.side s.0.1.side ts.0; heads = s.0.0.heads ++ s.0.1.heads }, ts.1)) r e in
     let b = bind_ok (level_after n count a.0.1) (λ ts. Ok (record { verdict = no_level a.0.0.0.side a.0.0.1.side ts.0; heads = a.0.0.0.heads ++ a.0.0.1.heads }, ts.1)) r a.2 in
@@ -155,12 +146,12 @@ no_level_took n count p r small e =
       lines = omega (arith, sides.lines, level.lines);
     })
 
-verdict_with_took : (n count : ℕ) (word : VerdictWord) (p : Place) (r : VerdictRead × Place) → n ≤ 6 → verdict_with n count word p ≡ Ok r → TookVerdict n p r
+verdict_with_took : (n count : ℕ) (word : VerdictWord) (p : Reading) (r : VerdictRead × Reading) → n ≤ 6 → verdict_with n count word p ≡ Ok r → TookVerdict n p r
 verdict_with_took n count a_yes p r small e = yes_took n p r e
 verdict_with_took n count a_no_length p r small e = no_length_took n count p r e
 verdict_with_took n count a_no_level p r small e = no_level_took n count p r small e
 
-verdict_took : (n count : ℕ) (p : Place) (r : VerdictRead × Place) → n ≤ 6 → verdict_after n count p ≡ Ok r → Took (IsVerdictRead n) (1 + verdict_lines n r.0.verdict) p r
+verdict_took : (n count : ℕ) (p : Reading) (r : VerdictRead × Reading) → n ≤ 6 → verdict_after n count p ≡ Ok r → Took (IsVerdictRead n) (1 + verdict_lines n r.0.verdict) p r
 unfolding verdict_after
 verdict_took n count p r small e =
     let a = bind_ok (line_after (codes "verdict") p) (λ k. verdict_in k.0.number k.0.fields >>= λ word. verdict_with n count word k.1) r e in
@@ -170,12 +161,12 @@ verdict_took n count p r small e =
 
 -- ---- answers
 -- An answer of one rank was read, a head for each of its flows, and all its lines but the first two and the last.
-record TookAnswer (p : Place) (r : AnswerRead × Place) : Type 0 where
+record TookAnswer (p : Reading) (r : AnswerRead × Reading) : Type 0 where
   answer : IsAnswerOfOneRank r.0.answer
   heads : length r.0.heads ≡ flow_lines r.0.answer
-  lines : 3 + length (kept_from p) ≡ answer_lines r.0.answer + length (kept_from r.1)
+  lines : length r.1.taken + 3 ≡ answer_lines r.0.answer + length p.taken
 
-reduced_took : (n : ℕ) (p : Place) (r : AnswerRead × Place) → reduced_after n p ≡ Ok r → TookAnswer p r
+reduced_took : (n : ℕ) (p : Reading) (r : AnswerRead × Reading) → reduced_after n p ≡ Ok r → TookAnswer p r
 unfolding reduced_after
 reduced_took n p r e =
     let a = bind_ok (tuple_after (codes "tuple") n p) (λ t. side_after n (length t.0.words) t.1 >>= λ s. Ok (record { answer = reduce t.0 s.0.side; heads = s.0.heads }, s.1)) r e in
@@ -188,7 +179,7 @@ reduced_took n p r e =
       lines = omega (arith, tuple.told, tuple.lines, side.lines);
     })
 
-decided_took : (n : ℕ) (p : Place) (r : AnswerRead × Place) → n ≤ 6 → decided_after n p ≡ Ok r → TookAnswer p r
+decided_took : (n : ℕ) (p : Reading) (r : AnswerRead × Reading) → n ≤ 6 → decided_after n p ≡ Ok r → TookAnswer p r
 unfolding decided_after
 decided_took n p r small e =
     let a = bind_ok (tuple_after (codes "first") n p) (λ s. like_after (codes "second") n (length s.0.words) s.1 >>= λ t. verdict_after n (length s.0.words) t.1 >>= λ v. Ok (record { answer = decide s.0 t.0 v.0.verdict; heads = v.0.heads }, v.1)) r e in
@@ -203,63 +194,57 @@ decided_took n p r small e =
       lines = omega (arith, first.lines, second.lines, verdict.lines, ap (λ k. verdict_lines k c.0.0.verdict) first.told);
     })
 
-answer_with_took : (command : Command) (n : ℕ) (p : Place) (r : AnswerRead × Place) → n ≤ greatest_rank command → answer_with command n p ≡ Ok r → TookAnswer p r
+answer_with_took : (command : Command) (n : ℕ) (p : Reading) (r : AnswerRead × Reading) → n ≤ greatest_rank command → answer_with command n p ≡ Ok r → TookAnswer p r
 answer_with_took commands.Reduce n p r small e = reduced_took n p r e
 answer_with_took commands.Decide n p r small e = decided_took n p r small e
 
 -- ---- the text
-heading_took : (p : Place) (r : Command × Place) → heading_after p ≡ Ok r → Took (λ _. Unit {0}) 1 p r
+heading_took : (p : Reading) (r : Command × Reading) → heading_after p ≡ Ok r → Took (λ _. Unit {0}) 1 p r
 unfolding heading_after
 heading_took p r e =
     one_line (λ (_ : Command). Unit {0}) (codes "whitehead") (λ k. heading_in k.0.number k.0.fields >>= λ command. Ok (command, k.1)) p r (λ k h.
     let a = bind_ok (heading_in k.0.number k.0.fields) (λ command. Ok (command, k.1)) r h in
     (a.0, tt, a.2)) e
 
-allowed_is : (command : Command) (n m : ℕ) → allowed_rank command n ≡ Ok m → m ≤ greatest_rank command
-allowed_is command n m e =
-    let p = if_ok (leb n (greatest_rank command)) (errors.LevelRank n) (Ok n) m e in
-    let most : leb n (greatest_rank command) ≡ true = p.0 in
-    let same : n ≡ m = ok_is n m p.1 in
-    grind (arith, nat_tests)
-
-rank_took : (command : Command) (p : Place) (r : ℕ × Place) → rank_after command p ≡ Ok r → Took (λ n. n ≤ greatest_rank command) 1 p r
+rank_took : (command : Command) (p : Reading) (r : ℕ × Reading) → rank_after command p ≡ Ok r → Took (λ n. n ≤ greatest_rank command) 1 p r
 unfolding rank_after
 rank_took command p r e =
-    one_line (λ n. n ≤ greatest_rank command) (codes "rank") (λ k. or_bad_line k.0.number (number_in 1 26 k.0.fields) >>= λ n. allowed_rank command n >>= λ m. Ok (m, k.1)) p r (λ k h.
-    let a = bind_ok (or_bad_line k.0.number (number_in 1 26 k.0.fields)) (λ n. allowed_rank command n >>= λ m. Ok (m, k.1)) r h in
-    let b = bind_ok (allowed_rank command a.0) (λ m. Ok (m, k.1)) r a.2 in
-    (b.0, allowed_is command a.0 b.0 b.1, b.2)) e
+    let next : Kept × Reading → Result (ℕ × Reading) ReadError = λ k. rank_at command k.0.number k.0.fields >>= λ n. Ok (n, k.1) in
+    let a = bind_ok (refused_as no_rank (line_after (codes "rank") p)) next r e in
+    let line = refused_ok no_rank (line_after (codes "rank") p) a.0 a.1 in
+    let b = bind_ok (rank_at command a.0.0.number a.0.0.fields) (λ n. Ok (n, a.0.1)) r a.2 in
+    ok_same (Took (λ n. n ≤ greatest_rank command) 1 p) (b.0, a.0.1) r b.2
+    (record { told = (rank_is command a.0.0.number b.0 a.0.0.fields b.1).2; lines = line_taken (codes "rank") p a.0 line })
 
-done_taken : (p q : Place) → done_after p ≡ Ok q → length (kept_from p) ≡ 1
+done_taken : (p : Reading) (q : Unit {0} × Reading) → done_after p ≡ Ok q → length q.1.taken ≡ 1 + length p.taken
 unfolding done_after
 done_taken p q e =
     let a = bind_ok (line_after (codes "done") p) (λ k. cond (length k.0.fields == 0) (end_after k.1) (Err (errors.BadLine k.0.number))) q e in
     let b = if_ok (length a.0.0.fields == 0) (errors.BadLine a.0.0.number) (end_after a.0.1) q a.2 in
     omega (arith, line_taken (codes "done") p a.0 a.1, end_taken a.0.1 q b.1)
 
-abbrev certificate_from : Place → AnswerRead → CertificateData
-certificate_from p read = record { answer = read.answer; lines = kept_from p; flow_heads = read.heads }
+abbrev certificate_of_read : AnswerRead × Reading → CertificateData
+certificate_of_read read = record { answer = read.0.answer; lines = read.1.taken; flow_heads = read.0.heads }
 
-answer_numbered : (p : Place) (read : AnswerRead) → answer_after p ≡ Ok read → IsNumbered (certificate_from p read)
+answer_numbered : (p : Reading) (read : AnswerRead × Reading) → length p.taken ≡ 0 → answer_after p ≡ Ok read → IsNumbered (certificate_of_read read)
 unfolding answer_after
-answer_numbered p read e =
-    let a = bind_ok (heading_after p) (λ command. rank_after command.0 command.1 >>= λ n. answer_with command.0 n.0 n.1 >>= λ answer. done_after answer.1 >>= λ end. Ok answer.0) read e in
-    let b = bind_ok (rank_after a.0.0 a.0.1) (λ n. answer_with a.0.0 n.0 n.1 >>= λ answer. done_after answer.1 >>= λ end. Ok answer.0) read a.2 in
-    let c = bind_ok (answer_with a.0.0 b.0.0 b.0.1) (λ answer. done_after answer.1 >>= λ end. Ok answer.0) read b.2 in
-    let d = bind_ok (done_after c.0.1) (λ end. Ok c.0.0) read c.2 in
+answer_numbered p read none e =
+    let a = bind_ok (heading_after p) (λ command. refused_as in_answer (rank_after command.0 command.1) >>= λ n. answer_with command.0 n.0 n.1 >>= λ answer. with_end answer.0 answer.1) read e in
+    let b = bind_ok (refused_as in_answer (rank_after a.0.0 a.0.1)) (λ n. answer_with a.0.0 n.0 n.1 >>= λ answer. with_end answer.0 answer.1) read a.2 in
+    let c = bind_ok (answer_with a.0.0 b.0.0 b.0.1) (λ answer. with_end answer.0 answer.1) read b.2 in
+    let d = bind_ok (done_after c.0.1) (λ end. Ok (c.0.0, end.1)) read c.2 in
     let heading = heading_took p a.0 a.1 in
-    let rank = rank_took a.0.0 a.0.1 b.0 b.1 in
+    let rank = rank_took a.0.0 a.0.1 b.0 (refused_ok in_answer (rank_after a.0.0 a.0.1) b.0 b.1) in
     let answer = answer_with_took a.0.0 b.0.0 b.0.1 c.0 rank.told c.1 in
-    ok_same (λ (x : AnswerRead). IsNumbered (certificate_from p x)) c.0.0 read d.2 (record {
+    ok_same (λ (x : AnswerRead × Reading). IsNumbered (certificate_of_read x)) (c.0.0, d.0.1) read d.2 (record {
       answer = answer.answer;
-      lines = omega (arith, heading.lines, rank.lines, answer.lines, done_taken c.0.1 d.0 d.1);
+      lines = omega (arith, none, heading.lines, rank.lines, answer.lines, done_taken c.0.1 d.0 d.1);
       heads = answer.heads;
     })
 
 pub certificate_numbered : (bytes : List ℕ) (c : CertificateData) → certificate bytes ≡ Ok c → IsNumbered c
 unfolding certificate
 certificate_numbered bytes c e =
-    let start : Place = record { line = 1; rest = lines bytes } in
-    let a = unless_ok (ltb most_certificate_bytes (length bytes)) (errors.InputTooLong most_certificate_bytes) (answer_after start >>= λ read. Ok (certificate_from start read)) c e in
-    let b = bind_ok (answer_after start) (λ read. Ok (certificate_from start read)) c a.1 in
-    ok_same IsNumbered (certificate_from start b.0) c b.2 (answer_numbered start b.0 b.1)
+    let a = unless_ok (ltb most_answer_bytes (length bytes)) (errors.InputTooLong most_answer_bytes) (answer_after (start bytes) >>= λ read. Ok (certificate_of_read read)) c e in
+    let b = bind_ok (answer_after (start bytes)) (λ read. Ok (certificate_of_read read)) c a.1 in
+    ok_same IsNumbered (certificate_of_read b.0) c b.2 (answer_numbered (start bytes) b.0 refl b.1)

@@ -1,6 +1,6 @@
 -- An answer is read back from its rows: for the law on printed answers.
-use Rattle.std.proofs.Common.{◌≡◌, ℕ, ◌+◌, ◌≤◌, ◌==◌, leb, cond, List, [], ◌∷◌, ◌++◌, length, map, ap, ◌∙◌, refl, arith, Result, Ok, Err}
-use Rattle.std.specs.Prelude.{codes}
+use Rattle.std.proofs.Common.{◌≡◌, ℕ, ◌+◌, ◌≤◌, ◌==◌, leb, cond, List, [], ◌∷◌, ◌++◌, length, map, sym, ap, ◌∙◌, refl, arith, Result, Ok, Err}
+use Rattle.std.specs.Prelude.{codes, decimal}
 use Rattle.std.specs.List.{All}
 use Rattle.std.proofs.lemmas.List.{map-append}
 use Rattle.std.proofs.lemmas.List.Elements.{All-nil, All-cons, All-append, All-push}
@@ -8,25 +8,29 @@ use Rattle.std.proofs.lemmas.Bool.{cond-true, le-leb}
 use Rattle.wh_words.specs.Tuples.{TupleData, IsTuple}
 use Rattle.wh_text.specs.declared.command.Command.{Command}
 use Rattle.wh_text.specs.declared.command.Command.TheVariants as commands
-use Rattle.wh_text.specs.declared.read_error.ReadError.{ReadError}
-use Rattle.wh_text.specs.declared.read_error.ReadError.TheVariants as errors
-use Rattle.wh_text.specs.Lines.{Field}
-use Rattle.wh_text.specs.Readings.{◌>>=◌}
-use Rattle.wh_text.specs.Spellings.{are}
-use Rattle.wh_text.specs.KeptLines.{Place, first_kept, end_after}
-use Rattle.wh_text.specs.Problems.{greatest_rank, allowed_rank}
+use Rattle.wh_lines.specs.declared.read_error.ReadError.{ReadError}
+use Rattle.wh_lines.specs.declared.read_error.ReadError.TheVariants as errors
+use Rattle.wh_lines.specs.Lines.{Field, are}
+use Rattle.wh_lines.specs.Readings.{◌>>=◌, refused_as}
+use Rattle.wh_lines.specs.KeptLines.Rest.{end}
+use Rattle.wh_lines.specs.LineReadings.{Reading, end_of, end_after}
+use Rattle.wh_text.specs.RankLines.{greatest_rank, rank_at, no_rank, rank_after}
 use Rattle.wh_text.specs.AnswerData.{SideData, VerdictData, AnswerData}
 use Rattle.wh_text.specs.AnswerData.AnswerData.{reduce, decide}
-use Rattle.wh_text.specs.Certificates.{tuple_after, like_after, side_after, verdict_after, AnswerRead, reduced_after, decided_after, answer_with, command_at, heading_in, heading_after, rank_after, done_after, answer_after}
-use Rattle.wh_text.specs.ReadingBack.{IsTupleOf, IsSideOf, IsVerdictOf, IsCertificate, heads_from, verdict_heads, heads_of}
-use Rattle.wh_text.proofs.Equations.{split_fields, no_fields}
-use Rattle.wh_text.proofs.TupleLaws.{rank_within}
-use Rattle.wh_text.proofs.PrintedRows.{Row, row_text, IsShown, IsShownRow}
-use Rattle.wh_text.proofs.RowReadings.{Reads, row_told, reads_none, row_then, reads_then, reads_as}
-use Rattle.wh_text.proofs.ShownFields.{written_shown}
-use Rattle.wh_text.proofs.AnswerRows.{words_row, number_row, side_rows, verdict_rows, heading_row, done_row, inner_rows, answer_rows}
+use Rattle.wh_text.specs.Certificates.{tuple_after, like_after, side_after, verdict_after, AnswerRead, reduced_after, decided_after, answer_with, command_at, heading_in, heading_after, in_answer, with_end, done_after, answer_after}
+use Rattle.wh_fields.specs.TupleFields.{IsTupleOf, words_row}
+use Rattle.wh_text.specs.ReadingBack.{IsSideOf, IsVerdictOf, IsCertificate, verdict_heads, heads_of}
+use Rattle.wh_fields.specs.FlowFields.{heads_from}
+use Rattle.wh_lines.proofs.Equations.{split_fields, no_fields}
+use Rattle.wh_text.proofs.RankLaws.{rank_within, rank_back}
+use Rattle.wh_lines.specs.Rows.{Row, number_row}
+use Rattle.wh_lines.proofs.PrintedRows.{IsShown, IsShownRow}
+use Rattle.wh_lines.proofs.NextLines.{behind, line_there}
+use Rattle.wh_lines.proofs.RowReadings.{ReadsRows, Passes, passes_split, reads_none, row_then, reads_then, reads_as}
+use Rattle.wh_fields.proofs.ShownFields.{written_shown, decimal_shown}
+use Rattle.wh_text.specs.AnswerTexts.{side_rows, verdict_row, verdict_rows, heading_row, done_row, rows_of}
 use Rattle.wh_text.proofs.ReadSides.{tuple_read, like_read, side_told, side_read}
-use Rattle.wh_text.proofs.ReadVerdicts.{number_then, verdict_read}
+use Rattle.wh_text.proofs.ReadVerdicts.{verdict_read}
 
 -- ---- the heading
 -- the word of a command
@@ -50,7 +54,7 @@ heading_told l command fs e =
     ∙ ap (λ w. cond (are w (codes "1")) (command_at l t.0.bytes) (Err (errors.BadLine l))) s.3
     ∙ ap (command_at l) t.3 ∙ command_is l command
 
-heading_read : (command : Command) → Reads heading_after command (heading_row (command_text command) ∷ [])
+heading_read : (command : Command) → ReadsRows heading_after command (heading_row (command_text command) ∷ [])
 unfolding heading_after
 heading_read command =
     row_then (heading_row (command_text command)) (λ k. heading_in k.0.number k.0.fields >>= λ c. Ok (c, k.1)) command []
@@ -58,19 +62,25 @@ heading_read command =
       keyword = written_shown 119 (codes "hitehead") refl;
       fields = All-cons IsShown (codes "1") (command_text command ∷ []) (written_shown 49 [] refl) (All-cons IsShown (command_text command) [] (command_shown command) (All-nil IsShown));
     })
-    (λ l fs t. reads_none (λ p. heading_in l fs >>= λ c. Ok (c, p)) command (λ p. ap (λ r. r >>= λ c. Ok (c, p)) (heading_told l command fs t.same)))
+    (λ k t. reads_none (λ p. heading_in k.number k.fields >>= λ c. Ok (c, p)) command (λ p. ap (λ r. r >>= λ c. Ok (c, p)) (heading_told k.number command k.fields t.same)))
 
 -- ---- the rank
-rank_read : (command : Command) (n : ℕ) → 1 ≤ n → n ≤ greatest_rank command → Reads (rank_after command) n (number_row (codes "rank") n ∷ [])
+rank_read : (command : Command) (n : ℕ) → 1 ≤ n → n ≤ greatest_rank command → ReadsRows (λ p. refused_as in_answer (rank_after command p)) n (number_row (codes "rank") n ∷ [])
 unfolding rank_after
 rank_read command n l m =
     let most = rank_within command in
-    number_then (codes "rank") 1 26 n (λ q. allowed_rank command q.0 >>= λ m. Ok (m, q.1)) n [] (written_shown 114 (codes "ank") refl) (omega (arith, m, most)) l (omega (arith, m, most))
-    (reads_none (λ p. allowed_rank command n >>= λ m. Ok (m, p)) n (λ p. ap (λ r. r >>= λ m. Ok (m, p)) (cond-true (leb n (greatest_rank command)) (Ok n) (Err (errors.LevelRank n)) (le-leb n (greatest_rank command) m))))
+    record {
+      shown = All-cons IsShownRow (number_row (codes "rank") n) []
+          (record { keyword = written_shown 114 (codes "ank") refl; fields = All-cons IsShown (decimal n) [] (decimal_shown n (omega (arith, m, most))) (All-nil IsShown) }) (All-nil IsShownRow);
+      told = λ p q passes.
+          ap (λ r. refused_as in_answer (refused_as no_rank r >>= λ k. rank_at command k.0.number k.0.fields >>= λ n. Ok (n, k.1))) (line_there (codes "rank") p passes.0 passes.1 passes.2 passes.3.keyword)
+          ∙ ap (λ r. refused_as in_answer (r >>= λ n. Ok (n, behind p passes.0 passes.1))) (rank_back command passes.0.number n passes.0.fields passes.3.same l m)
+          ∙ ap (λ x. Ok (n, x)) passes.4;
+    }
 
 -- ---- the lines between the rank and the last
 reduced_read : (t : TupleData) (s : SideData) → t.rank ≤ 26 → IsTuple t → IsSideOf t.rank (length t.words) s →
-    Reads (reduced_after t.rank) (record { answer = reduce t s; heads = heads_from 0 s.flows }) (inner_rows (reduce t s))
+    ReadsRows (reduced_after t.rank) (record { answer = reduce t s; heads = heads_from 0 s.flows }) (words_row (codes "tuple") t.words ∷ side_rows s)
 unfolding reduced_after
 reduced_read t s h i j =
     let told : AnswerRead = record { answer = reduce t s; heads = heads_from 0 s.flows } in
@@ -81,7 +91,7 @@ reduced_read t s h i j =
     (side_read t.rank (length t.words) s h j) (λ p. refl))
 
 decided_read : (s t : TupleData) (v : VerdictData) → s.rank ≤ 26 → IsTuple s → IsTupleOf s.rank (length s.words) t → IsVerdictOf s.rank (length s.words) v →
-    Reads (decided_after s.rank) (record { answer = decide s t v; heads = verdict_heads v }) (inner_rows (decide s t v))
+    ReadsRows (decided_after s.rank) (record { answer = decide s t v; heads = verdict_heads v }) (words_row (codes "first") s.words ∷ words_row (codes "second") t.words ∷ verdict_row v ∷ verdict_rows v)
 unfolding decided_after
 decided_read s t v h i j k =
     let n = s.rank in
@@ -89,58 +99,55 @@ decided_read s t v h i j k =
     let told : AnswerRead = record { answer = decide s t v; heads = verdict_heads v } in
     reads_then (tuple_after (codes "first") n)
     (λ s. like_after (codes "second") n (length s.0.words) s.1 >>= λ t. verdict_after n (length s.0.words) t.1 >>= λ v. Ok (record { answer = decide s.0 t.0 v.0.verdict; heads = v.0.heads }, v.1))
-    s told (words_row (codes "first") s.words ∷ []) (words_row (codes "second") t.words ∷ verdict_rows v)
+    s told (words_row (codes "first") s.words ∷ []) (words_row (codes "second") t.words ∷ verdict_row v ∷ verdict_rows v)
     (tuple_read (codes "first") s (written_shown 102 (codes "irst") refl) h i)
     (reads_then (like_after (codes "second") n count) (λ t. verdict_after n count t.1 >>= λ v. Ok (record { answer = decide s t.0 v.0.verdict; heads = v.0.heads }, v.1))
-    t told (words_row (codes "second") t.words ∷ []) (verdict_rows v)
+    t told (words_row (codes "second") t.words ∷ []) (verdict_row v ∷ verdict_rows v)
     (like_read (codes "second") n count t (written_shown 115 (codes "econd") refl) h j)
-    (reads_as (verdict_after n count) (λ v. Ok (record { answer = decide s t v.0.verdict; heads = v.0.heads }, v.1)) (record { verdict = v; heads = verdict_heads v }) told (verdict_rows v)
+    (reads_as (verdict_after n count) (λ v. Ok (record { answer = decide s t v.0.verdict; heads = v.0.heads }, v.1)) (record { verdict = v; heads = verdict_heads v }) told (verdict_row v ∷ verdict_rows v)
     (verdict_read n count v h k) (λ p. refl)))
 
 -- ---- the last line
 done_shown : IsShownRow done_row
 done_shown = record { keyword = written_shown 100 (codes "one") refl; fields = All-nil IsShown }
 
-done_read : (l : ℕ) → done_after (record { line = l; rest = row_text done_row ∷ [] }) ≡ Ok (record { line = l + 1; rest = [] })
-unfolding done_after end_after first_kept
-done_read l =
-    let r = row_told done_row done_shown in
-    ap (λ q. q >>= λ k. cond (length k.0.fields == 0) (end_after k.1) (Err (errors.BadLine k.0.number))) (r.2 l [])
-    ∙ ap (λ fs. cond (length fs == 0) (Ok (record { line = l + 1; rest = [] })) (Err (errors.BadLine l))) (no_fields r.0 r.1.same)
+done_read : (p q : Reading) → Passes (done_row ∷ []) p q → (m : ℕ) → q.rest ≡ end m → done_after p ≡ Ok (tt, q)
+unfolding done_after end_after
+done_read p q passes m e =
+    ap (λ r. r >>= λ k. cond (length k.0.fields == 0) (end_after k.1) (Err (errors.BadLine k.0.number))) (line_there (codes "done") p passes.0 passes.1 passes.2 passes.3.keyword)
+    ∙ ap (λ fs. cond (length fs == 0) (end_after (behind p passes.0 passes.1)) (Err (errors.BadLine passes.0.number))) (no_fields passes.0.fields passes.3.same)
+    ∙ ap end_after passes.4 ∙ ap (end_of q.taken) e ∙ ap (λ x. Ok (tt, record { taken = q.taken; rest = x })) (sym e)
 
 -- ---- all lines
--- rows that tell an answer
+-- rows that tell an answer, where nothing follows them
 pub record TellAnswer (told : AnswerRead) (rows : List Row) : Type 0 where
   pub shown : All IsShownRow rows
-  pub read : answer_after (record { line = 1; rest = map row_text rows }) ≡ Ok told
+  pub read : (p q : Reading) (m : ℕ) → Passes rows p q → q.rest ≡ end m → answer_after p ≡ Ok (told, q)
 
-all_read : (command : Command) (n : ℕ) (told : AnswerRead) (rows : List Row) → 1 ≤ n → n ≤ greatest_rank command → Reads (answer_with command n) told rows →
+all_read : (command : Command) (n : ℕ) (told : AnswerRead) (rows : List Row) → 1 ≤ n → n ≤ greatest_rank command → ReadsRows (answer_with command n) told rows →
     TellAnswer told (heading_row (command_text command) ∷ number_row (codes "rank") n ∷ rows ++ done_row ∷ [])
 unfolding answer_after
 all_read command n told rows l m inner =
-    let end : AnswerRead × Place → Result AnswerRead ReadError = λ a. done_after a.1 >>= λ end. Ok a.0 in
-    let last = row_text done_row ∷ [] in
-    let later = map row_text (rows ++ done_row ∷ []) in
     let heading = heading_read command in
     let rank = rank_read command n l m in
-    let h = heading.told 1 (row_text (number_row (codes "rank") n) ∷ later) in
-    let r = rank.told h.0 later in
-    let i = inner.told r.0 last in
+    let first = heading_row (command_text command) ∷ [] in
+    let second = number_row (codes "rank") n ∷ [] in
     record {
-      shown = All-append IsShownRow (heading_row (command_text command) ∷ number_row (codes "rank") n ∷ []) (rows ++ done_row ∷ [])
-          (All-append IsShownRow (heading_row (command_text command) ∷ []) (number_row (codes "rank") n ∷ []) heading.shown rank.shown)
-          (All-push IsShownRow rows done_row inner.shown done_shown);
-      read =
-          ap (λ q. q >>= λ c. rank_after c.0 c.1 >>= λ n. answer_with c.0 n.0 n.1 >>= end) h.1
-          ∙ ap (λ q. q >>= λ n. answer_with command n.0 n.1 >>= end) r.1
-          ∙ ap (λ ls. answer_with command n (record { line = r.0; rest = ls }) >>= end) (map-append row_text rows (done_row ∷ []))
-          ∙ ap (λ q. q >>= end) i.1
-          ∙ ap (λ q. q >>= λ end. Ok told) (done_read i.0);
+      shown = All-append IsShownRow first (second ++ rows ++ done_row ∷ []) heading.shown
+          (All-append IsShownRow second (rows ++ done_row ∷ []) rank.shown (All-push IsShownRow rows done_row inner.shown done_shown));
+      read = λ p q m passes e.
+          let a = passes_split first (second ++ rows ++ done_row ∷ []) p q passes in
+          let b = passes_split second (rows ++ done_row ∷ []) a.0 q a.2 in
+          let c = passes_split rows (done_row ∷ []) b.0 q b.2 in
+          ap (λ r. r >>= λ c. refused_as in_answer (rank_after c.0 c.1) >>= λ n. answer_with c.0 n.0 n.1 >>= λ a. with_end a.0 a.1) (heading.told p a.0 a.1)
+          ∙ ap (λ r. r >>= λ n. answer_with command n.0 n.1 >>= λ a. with_end a.0 a.1) (rank.told a.0 b.0 b.1)
+          ∙ ap (λ r. r >>= λ a. with_end a.0 a.1) (inner.told b.0 c.0 c.1)
+          ∙ ap (λ r. r >>= λ end. Ok (told, end.1)) (done_read c.0 q c.2 m e);
     }
 
-pub answer_read : (a : AnswerData) → IsCertificate a → TellAnswer (record { answer = a; heads = heads_of a }) (answer_rows a ++ done_row ∷ [])
+pub answer_read : (a : AnswerData) → IsCertificate a → TellAnswer (record { answer = a; heads = heads_of a }) (rows_of a)
 answer_read (reduce t s) h =
-    all_read commands.Reduce t.rank (record { answer = reduce t s; heads = heads_from 0 s.flows }) (inner_rows (reduce t s)) h.1 h.2 (reduced_read t s h.2 h.0 h.3)
+    all_read commands.Reduce t.rank (record { answer = reduce t s; heads = heads_from 0 s.flows }) (words_row (codes "tuple") t.words ∷ side_rows s) h.1 h.2 (reduced_read t s h.2 h.0 h.3)
 answer_read (decide s t v) h =
     let few : s.rank ≤ 26 = omega (arith, h.2) in
-    all_read commands.Decide s.rank (record { answer = decide s t v; heads = verdict_heads v }) (inner_rows (decide s t v)) h.1 h.2 (decided_read s t v few h.0 h.3 h.4)
+    all_read commands.Decide s.rank (record { answer = decide s t v; heads = verdict_heads v }) (words_row (codes "first") s.words ∷ words_row (codes "second") t.words ∷ verdict_row v ∷ verdict_rows v) h.1 h.2 (decided_read s t v few h.0 h.3 h.4)

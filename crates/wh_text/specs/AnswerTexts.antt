@@ -1,74 +1,92 @@
--- The text of an answer.
-use Rattle.std.specs.Prelude.{ℕ, List, ◌++◌, length, codes}
-use Rattle.std.specs.List.{flat_map}
-use Rattle.wh_words.specs.Tuples.{Tuple}
-use Rattle.wh_text.specs.declared.answer.Side.{Side}
+-- The text of an answer: its rows.
+use Rattle.std.specs.Prelude.{ℕ, List, [], ◌∷◌, ◌++◌, length, codes, decimal}
+use Rattle.wh_words.specs.Tuples.{TupleData}
+use Rattle.wh_lines.specs.Rows.{Row, number_row, rows_text}
+use Rattle.wh_fields.specs.TupleFields.{words_row}
+use Rattle.wh_fields.specs.MoveFields.{moves_row}
+use Rattle.wh_fields.specs.FlowFields.{flow_rows, HaveLines}
 use Rattle.wh_text.specs.declared.answer.Bound.{Bound}
 use Rattle.wh_text.specs.declared.answer.Bound.TheVariants as bounds
-use Rattle.wh_text.specs.declared.answer.Verdict.{Verdict}
-use Rattle.wh_text.specs.declared.answer.Verdict.TheVariants as verdicts
-use Rattle.wh_text.specs.declared.answer.Answer.{Answer}
-use Rattle.wh_text.specs.declared.answer.Answer.TheVariants as answers
-use Rattle.wh_text.specs.FieldTexts.{words_text, moves_text, number_text}
-use Rattle.wh_text.specs.FlowTexts.{flows_text, HaveLines}
+use Rattle.wh_text.specs.AnswerData.{SideData, VerdictData, AnswerData}
+use Rattle.wh_text.specs.AnswerData.VerdictData.{yes, no_length, no_level, undecided}
+use Rattle.wh_text.specs.AnswerData.AnswerData.{reduce, decide}
 
--- ---- lines of all commands
--- The line of a rank.
-abbrev pub rank_text : ℕ → List ℕ
-rank_text n = codes "rank" ++ number_text n
+-- ---- sides and levels
+-- The rows of a side: its trace, its end, and a flow for each generator.
+abbrev pub side_rows : SideData → List Row
+side_rows s = moves_row (codes "trace") s.trace ∷ words_row (codes "end") s.end.words ∷ flow_rows s.end.rank 0 s.flows
 
--- The lines of a side.
-unfoldable pub side_text : Side → List ℕ
-side_text s = codes "trace" ++ moves_text s.trace ++ codes "end" ++ words_text s.end.plain.words ++ flows_text s.end.plain.rank s.flows
+-- The rows of the tuples of a level.
+abbrev pub at_rows : List TupleData → List Row
+at_rows [] = []
+at_rows (t ∷ ts) = words_row (codes "at") t.words ∷ at_rows ts
 
--- A side can be printed: it has a flow for each generator of the rank of its end.
-abbrev pub IsPrintableSide : Side → Type 0
-IsPrintableSide s = HaveLines s.end.plain.rank s.flows
+-- The rows of a level: how many tuples it has, and each of them.
+abbrev pub level_rows : List TupleData → List Row
+level_rows ts = number_row (codes "level") (length ts) ∷ at_rows ts
 
--- ---- the answer of `reduce`
--- The lines of the answer of `reduce` between the first and the last.
-abbrev pub reduced_text : Tuple → Side → List ℕ
-reduced_text t s = rank_text t.plain.rank ++ codes "tuple" ++ words_text t.plain.words ++ side_text s
+-- ---- verdicts
+-- The bound that was met, as fields.
+abbrev pub bound_fields : Bound → List (List ℕ)
+bound_fields (bounds.Length n) = codes "length" ∷ decimal n ∷ []
+bound_fields (bounds.Level n) = codes "level" ∷ decimal n ∷ []
 
--- ---- the answer of `decide`
--- The line of a tuple of a level.
-abbrev pub at_text : Tuple → List ℕ
-at_text t = codes "at" ++ words_text t.plain.words
+-- The words of a verdict.
+abbrev pub verdict_fields : VerdictData → List (List ℕ)
+verdict_fields (yes ms) = codes "yes" ∷ []
+verdict_fields (no_length a b) = codes "no" ∷ codes "length" ∷ []
+verdict_fields (no_level a b ts) = codes "no" ∷ codes "level" ∷ []
+verdict_fields (undecided bound) = codes "undecided" ∷ bound_fields bound
 
--- The lines of a level: how many tuples it has, and each of them.
-abbrev pub level_text : List Tuple → List ℕ
-level_text ts = codes "level" ++ number_text (length ts) ++ flat_map at_text ts
+abbrev pub verdict_row : VerdictData → Row
+verdict_row v = record { keyword = codes "verdict"; fields = verdict_fields v }
 
--- The bound that was met, after a keyword.
-abbrev pub bound_text : Bound → List ℕ
-bound_text (bounds.Length n) = codes " length" ++ number_text n
-bound_text (bounds.Level n) = codes " level" ++ number_text n
+-- The rows after a verdict: the moves of a yes, or the two sides and, where their ends have one length, the level of a no.
+abbrev pub verdict_rows : VerdictData → List Row
+verdict_rows (yes ms) = moves_row (codes "moves") ms ∷ []
+verdict_rows (no_length a b) = side_rows a ++ side_rows b
+verdict_rows (no_level a b ts) = (side_rows a ++ side_rows b) ++ level_rows ts
+verdict_rows (undecided bound) = []
 
--- The lines of a verdict after its keyword: the moves of a yes; the two sides and, where their ends have one length, the level of a no; or the bound that left it open.
-unfoldable pub verdict_text : Verdict → List ℕ
-verdict_text (verdicts.Yes ms) = codes " yes\n" ++ codes "moves" ++ moves_text ms
-verdict_text (verdicts.NoLength s t) = codes " no length\n" ++ side_text s ++ side_text t
-verdict_text (verdicts.NoLevel s t level) = codes " no level\n" ++ side_text s ++ side_text t ++ level_text level
-verdict_text (verdicts.Undecided b) = codes " undecided" ++ bound_text b
+-- ---- answers
+abbrev pub heading_row : List ℕ → Row
+heading_row word = record { keyword = codes "whitehead"; fields = codes "1" ∷ word ∷ [] }
 
--- A verdict can be printed: each of its sides can.
-abbrev pub IsPrintableVerdict : Verdict → Type 0
-IsPrintableVerdict (verdicts.Yes ms) = Unit {0}
-IsPrintableVerdict (verdicts.NoLength s t) = IsPrintableSide s × IsPrintableSide t
-IsPrintableVerdict (verdicts.NoLevel s t level) = IsPrintableSide s × IsPrintableSide t
-IsPrintableVerdict (verdicts.Undecided b) = Unit {0}
+abbrev pub done_row : Row
+done_row = record { keyword = codes "done"; fields = [] }
 
--- The lines of the answer of `decide` between the first and the last.
-abbrev pub decided_text : Tuple → Tuple → Verdict → List ℕ
-decided_text s t v = rank_text s.plain.rank ++ codes "first" ++ words_text s.plain.words ++ codes "second" ++ words_text t.plain.words ++ codes "verdict" ++ verdict_text v
+-- The rows before the sides: the heading, the rank, the tuples, and the verdict.
+abbrev pub head_rows : AnswerData → List Row
+head_rows (reduce t s) = heading_row (codes "reduce") ∷ number_row (codes "rank") t.rank ∷ words_row (codes "tuple") t.words ∷ []
+head_rows (decide s t v) =
+    heading_row (codes "decide") ∷ number_row (codes "rank") s.rank
+    ∷ words_row (codes "first") s.words ∷ words_row (codes "second") t.words ∷ verdict_row v ∷ []
 
--- ---- all answers
+-- The rows between these and the last.
+abbrev pub body_rows : AnswerData → List Row
+body_rows (reduce t s) = side_rows s
+body_rows (decide s t v) = verdict_rows v
+
+-- All rows of an answer.
+abbrev pub rows_of : AnswerData → List Row
+rows_of a = head_rows a ++ body_rows a ++ done_row ∷ []
+
 -- The text of an answer.
-unfoldable pub answer_text : Answer → List ℕ
-answer_text (answers.Reduce t s) = codes "whitehead 1 reduce\n" ++ reduced_text t s ++ codes "done\n"
-answer_text (answers.Decide s t v) = codes "whitehead 1 decide\n" ++ decided_text s t v ++ codes "done\n"
+unfoldable pub answer_text : AnswerData → List ℕ
+answer_text a = rows_text (rows_of a)
+
+-- ---- what can be printed
+-- A side can be printed: it has a flow for each generator of the rank of its end, with a value that a line can tell.
+abbrev pub IsPrintableSide : SideData → Type 0
+IsPrintableSide s = HaveLines s.end.rank s.flows
+
+abbrev pub IsPrintableVerdict : VerdictData → Type 0
+IsPrintableVerdict (yes ms) = Unit {0}
+IsPrintableVerdict (no_length a b) = IsPrintableSide a × IsPrintableSide b
+IsPrintableVerdict (no_level a b ts) = IsPrintableSide a × IsPrintableSide b
+IsPrintableVerdict (undecided bound) = Unit {0}
 
 -- An answer can be printed: each of its sides can.
-abbrev pub IsPrintable : Answer → Type 0
-IsPrintable (answers.Reduce t s) = IsPrintableSide s
-IsPrintable (answers.Decide s t v) = IsPrintableVerdict v
+abbrev pub IsPrintable : AnswerData → Type 0
+IsPrintable (reduce t s) = IsPrintableSide s
+IsPrintable (decide s t v) = IsPrintableVerdict v

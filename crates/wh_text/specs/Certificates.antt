@@ -1,71 +1,57 @@
 -- The text of an answer of `reduce` or `decide` that can be checked, and the first refusal of a text that isn't one.
 use Rattle.std.specs.Prelude.{ℕ, ◌==◌, leb, ltb, ◌&&◌, ◌||◌, Bool, cond, List, [], ◌∷◌, ◌++◌, length, map, Option, Some, None, is_some, Result, Ok, Err, codes}
+use Rattle.wh_text.specs.Limits.{most_answer_bytes}
+use Rattle.wh_words.specs.Limits.{most_level_tuples}
 use Rattle.wh_words.specs.Tuples.{TupleData}
-use Rattle.wh_words.specs.Moves.{Move, Kind}
+use Rattle.wh_words.specs.Moves.{Move}
 use Rattle.wh_text.specs.declared.command.Command.{Command}
 use Rattle.wh_text.specs.declared.command.Command.TheVariants as commands
-use Rattle.wh_text.specs.declared.read_error.ReadError.{ReadError}
-use Rattle.wh_text.specs.declared.read_error.ReadError.TheVariants as errors
-use Rattle.wh_text.specs.Lines.{Field, lines}
-use Rattle.wh_text.specs.Readings.{◌>>=◌}
-use Rattle.wh_text.specs.Numbers.{number}
-use Rattle.wh_text.specs.Spellings.{are}
-use Rattle.wh_text.specs.TupleLines.{items_at, tuple_at}
-use Rattle.wh_text.specs.MoveFields.{kind_in}
-use Rattle.wh_text.specs.FlowFields.{FlowData, flow_in}
-use Rattle.wh_text.specs.Problems.{allowed_rank}
+use Rattle.wh_lines.specs.declared.read_error.ReadError.{ReadError}
+use Rattle.wh_lines.specs.declared.read_error.ReadError.TheVariants as errors
+use Rattle.wh_lines.specs.Lines.{Field, are}
+use Rattle.wh_lines.specs.Readings.{◌>>=◌, items_at, or_bad_line, refused_as}
+use Rattle.wh_lines.specs.Numbers.{number}
+use Rattle.wh_fields.specs.TupleFields.{tuple_at}
+use Rattle.wh_fields.specs.FlowFields.{FlowData, flow_in}
+use Rattle.wh_text.specs.RankLines.{rank_after}
 use Rattle.wh_text.specs.AnswerData.{SideData, VerdictData, AnswerData, CertificateData}
 use Rattle.wh_text.specs.AnswerData.VerdictData.{yes, no_length, no_level}
 use Rattle.wh_text.specs.AnswerData.AnswerData.{reduce, decide}
-use Rattle.wh_text.specs.KeptLines.{Place, line_after, end_after, times, kept_numbers}
+use Rattle.wh_lines.specs.LineReadings.{Reading, start, line_after, end_after, times}
+use Rattle.wh_fields.specs.MoveFields.{move_at}
 
--- How many bytes the text may have.
-abbrev pub most_certificate_bytes : ℕ
-most_certificate_bytes = 67108864
-
--- ---- lines
--- What line l tells, or that it doesn't continue such a text.
-abbrev pub or_bad_line : {A : Type 0} → ℕ → Option A → Result A ReadError
-or_bad_line l None = Err (errors.BadLine l)
-or_bad_line l (Some x) = Ok x
-
--- The tuple of a line of problems. Here a line whose words are refused doesn't continue the text.
-abbrev pub or_bad_tuple : ℕ → Result TupleData ReadError → Result TupleData ReadError
-or_bad_tuple l (Ok t) = Ok t
-or_bad_tuple l (Err e) = Err (errors.BadLine l)
+-- A refusal of a line with a cause of its own in problems. Here such a line doesn't continue the text.
+abbrev pub in_answer : ReadError → ReadError
+in_answer (errors.NoRank l) = errors.BadLine l
+in_answer (errors.RankRange l) = errors.BadLine l
+in_answer (errors.TooManyWords l count) = errors.BadLine l
+in_answer (errors.BadLetter l c) = errors.BadLine l
+in_answer (errors.LongTuple l length) = errors.BadLine l
+in_answer e = e
 
 -- The next line has this keyword and a tuple of rank n.
-unfoldable pub tuple_after : List ℕ → ℕ → Place → Result (TupleData × Place) ReadError
+unfoldable pub tuple_after : List ℕ → ℕ → Reading → Result (TupleData × Reading) ReadError
 tuple_after keyword n p =
     line_after keyword p >>= λ k.
-    or_bad_tuple k.0.number (tuple_at n k.0.number k.0.fields) >>= λ t.
+    refused_as in_answer (tuple_at n k.0.number k.0.fields) >>= λ t.
     Ok (t, k.1)
 
 -- It has as many words as the first tuple of the text.
-unfoldable pub like_after : List ℕ → ℕ → ℕ → Place → Result (TupleData × Place) ReadError
+unfoldable pub like_after : List ℕ → ℕ → ℕ → Reading → Result (TupleData × Reading) ReadError
 like_after keyword n count p =
     line_after keyword p >>= λ k.
-    or_bad_tuple k.0.number (tuple_at n k.0.number k.0.fields) >>= λ t.
+    refused_as in_answer (tuple_at n k.0.number k.0.fields) >>= λ t.
     cond (length t.words == count) (Ok (t, k.1)) (Err (errors.BadLine k.0.number))
 
--- The move of rank n that a kind gives.
-abbrev pub move_with : ℕ → Option Kind → Option Move
-move_with n None = None
-move_with n (Some kind) = Some (record { rank = n; kind = kind })
-
--- The move of a field in line l.
-abbrev pub move_at : ℕ → ℕ → Field → Result Move ReadError
-move_at n l f = or_bad_line l (move_with n (kind_in n f.bytes))
-
 -- The next line has this keyword and moves of rank n.
-unfoldable pub moves_after : List ℕ → ℕ → Place → Result (List Move × Place) ReadError
+unfoldable pub moves_after : List ℕ → ℕ → Reading → Result (List Move × Reading) ReadError
 moves_after keyword n p =
     line_after keyword p >>= λ k.
     items_at (move_at n k.0.number) k.0.fields >>= λ ms.
     Ok (ms, k.1)
 
 -- The next line tells a flow in rank n.
-unfoldable pub flow_after : ℕ → Place → Result (FlowData × Place) ReadError
+unfoldable pub flow_after : ℕ → Reading → Result (FlowData × Reading) ReadError
 flow_after n p =
     line_after (codes "flow") p >>= λ k.
     or_bad_line k.0.number (flow_in n k.0.fields) >>= λ f.
@@ -82,7 +68,7 @@ abbrev pub side_with : List Move → TupleData → List FlowData → SideRead
 side_with ms t fs = record { side = record { trace = ms; end = t; flows = map (λ f. f.table) fs }; heads = map (λ f. f.head) fs }
 
 -- The next lines are a side in rank n: `trace`, `end`, and a `flow` line for each generator.
-unfoldable pub side_after : ℕ → ℕ → Place → Result (SideRead × Place) ReadError
+unfoldable pub side_after : ℕ → ℕ → Reading → Result (SideRead × Reading) ReadError
 side_after n count p =
     moves_after (codes "trace") n p >>= λ ms.
     like_after (codes "end") n count ms.1 >>= λ t.
@@ -100,11 +86,11 @@ number_in least most [] = None
 number_in least most (f ∷ []) = within least most (number f.bytes)
 number_in least most (f ∷ g ∷ fs) = None
 
--- The next lines are a level in rank n: `level` with the number of its tuples, 1 to 131,072, and an `at` line for each of them.
-unfoldable pub level_after : ℕ → ℕ → Place → Result (List TupleData × Place) ReadError
+-- The next lines are a level in rank n: `level` with the number of its tuples, and an `at` line for each of them.
+unfoldable pub level_after : ℕ → ℕ → Reading → Result (List TupleData × Reading) ReadError
 level_after n count p =
     line_after (codes "level") p >>= λ k.
-    or_bad_line k.0.number (number_in 1 131072 k.0.fields) >>= λ size.
+    or_bad_line k.0.number (number_in 1 most_level_tuples k.0.fields) >>= λ size.
     times (like_after (codes "at") n count) size k.1
 
 -- ---- verdicts
@@ -135,35 +121,35 @@ pub record VerdictRead : Type 0 where
   pub heads : List (ℕ × ℕ)
 
 -- The next lines are those of a yes.
-abbrev pub yes_after : ℕ → Place → Result (VerdictRead × Place) ReadError
+abbrev pub yes_after : ℕ → Reading → Result (VerdictRead × Reading) ReadError
 yes_after n p = moves_after (codes "moves") n p >>= λ ms. Ok (record { verdict = yes ms.0; heads = [] }, ms.1)
 
 -- The next lines are two sides.
-unfoldable pub sides_after : ℕ → ℕ → Place → Result ((SideRead × SideRead) × Place) ReadError
+unfoldable pub sides_after : ℕ → ℕ → Reading → Result ((SideRead × SideRead) × Reading) ReadError
 sides_after n count p =
     side_after n count p >>= λ a.
     side_after n count a.1 >>= λ b.
     Ok ((a.0, b.0), b.1)
 
 -- The next lines are those of a no by lengths.
-abbrev pub no_length_after : ℕ → ℕ → Place → Result (VerdictRead × Place) ReadError
+abbrev pub no_length_after : ℕ → ℕ → Reading → Result (VerdictRead × Reading) ReadError
 no_length_after n count p = sides_after n count p >>= λ s. Ok (record { verdict = no_length s.0.0.side s.0.1.side; heads = s.0.0.heads ++ s.0.1.heads }, s.1)
 
 -- The next lines are those of a no by a level.
-abbrev pub no_level_after : ℕ → ℕ → Place → Result (VerdictRead × Place) ReadError
+abbrev pub no_level_after : ℕ → ℕ → Reading → Result (VerdictRead × Reading) ReadError
 no_level_after n count p =
     sides_after n count p >>= λ s.
     level_after n count s.1 >>= λ ts.
     Ok (record { verdict = no_level s.0.0.side s.0.1.side ts.0; heads = s.0.0.heads ++ s.0.1.heads }, ts.1)
 
 -- The lines after a verdict line.
-abbrev pub verdict_with : ℕ → ℕ → VerdictWord → Place → Result (VerdictRead × Place) ReadError
+abbrev pub verdict_with : ℕ → ℕ → VerdictWord → Reading → Result (VerdictRead × Reading) ReadError
 verdict_with n count a_yes p = yes_after n p
 verdict_with n count a_no_length p = no_length_after n count p
 verdict_with n count a_no_level p = no_level_after n count p
 
 -- The next lines are a verdict.
-unfoldable pub verdict_after : ℕ → ℕ → Place → Result (VerdictRead × Place) ReadError
+unfoldable pub verdict_after : ℕ → ℕ → Reading → Result (VerdictRead × Reading) ReadError
 verdict_after n count p =
     line_after (codes "verdict") p >>= λ k.
     verdict_in k.0.number k.0.fields >>= λ word.
@@ -176,21 +162,21 @@ pub record AnswerRead : Type 0 where
   pub heads : List (ℕ × ℕ)
 
 -- The lines of an answer of `reduce`, after that of the rank n.
-unfoldable pub reduced_after : ℕ → Place → Result (AnswerRead × Place) ReadError
+unfoldable pub reduced_after : ℕ → Reading → Result (AnswerRead × Reading) ReadError
 reduced_after n p =
     tuple_after (codes "tuple") n p >>= λ t.
     side_after n (length t.0.words) t.1 >>= λ s.
     Ok (record { answer = reduce t.0 s.0.side; heads = s.0.heads }, s.1)
 
 -- The lines of an answer of `decide`.
-unfoldable pub decided_after : ℕ → Place → Result (AnswerRead × Place) ReadError
+unfoldable pub decided_after : ℕ → Reading → Result (AnswerRead × Reading) ReadError
 decided_after n p =
     tuple_after (codes "first") n p >>= λ s.
     like_after (codes "second") n (length s.0.words) s.1 >>= λ t.
     verdict_after n (length s.0.words) t.1 >>= λ v.
     Ok (record { answer = decide s.0 t.0 v.0.verdict; heads = v.0.heads }, v.1)
 
-abbrev pub answer_with : Command → ℕ → Place → Result (AnswerRead × Place) ReadError
+abbrev pub answer_with : Command → ℕ → Reading → Result (AnswerRead × Reading) ReadError
 answer_with commands.Reduce n p = reduced_after n p
 answer_with commands.Decide n p = decided_after n p
 
@@ -209,38 +195,33 @@ heading_in l (f ∷ g ∷ []) = cond (are f.bytes (codes "1")) (command_at l g.b
 heading_in l (f ∷ g ∷ h ∷ fs) = Err (errors.BadLine l)
 
 -- The next line is a heading.
-unfoldable pub heading_after : Place → Result (Command × Place) ReadError
+unfoldable pub heading_after : Reading → Result (Command × Reading) ReadError
 heading_after p =
     line_after (codes "whitehead") p >>= λ k.
     heading_in k.0.number k.0.fields >>= λ command.
     Ok (command, k.1)
 
--- The next line is the rank, which is 1 to 26, and allowed for the command.
-unfoldable pub rank_after : Command → Place → Result (ℕ × Place) ReadError
-rank_after command p =
-    line_after (codes "rank") p >>= λ k.
-    or_bad_line k.0.number (number_in 1 26 k.0.fields) >>= λ n.
-    allowed_rank command n >>= λ m.
-    Ok (m, k.1)
-
 -- The last line is `done`.
-unfoldable pub done_after : Place → Result Place ReadError
+unfoldable pub done_after : Reading → Result (Unit {0} × Reading) ReadError
 done_after p =
     line_after (codes "done") p >>= λ k.
     cond (length k.0.fields == 0) (end_after k.1) (Err (errors.BadLine k.0.number))
 
+-- An answer, where the text ends behind it.
+abbrev pub with_end : AnswerRead → Reading → Result (AnswerRead × Reading) ReadError
+with_end answer p = done_after p >>= λ end. Ok (answer, end.1)
+
 -- The lines of a text, from the heading to the last.
-unfoldable pub answer_after : Place → Result AnswerRead ReadError
+unfoldable pub answer_after : Reading → Result (AnswerRead × Reading) ReadError
 answer_after p =
     heading_after p >>= λ command.
-    rank_after command.0 command.1 >>= λ n.
+    refused_as in_answer (rank_after command.0 command.1) >>= λ n.
     answer_with command.0 n.0 n.1 >>= λ answer.
-    done_after answer.1 >>= λ end.
-    Ok answer.0
+    with_end answer.0 answer.1
 
--- The certificate that a text is, or its first refusal: its size first, then its lines in order.
+-- The certificate that a text is, or its first refusal: its size first, then its lines in order. Its numbers are those of the lines that were taken.
 unfoldable pub certificate : List ℕ → Result CertificateData ReadError
 certificate bytes =
-    cond (ltb most_certificate_bytes (length bytes)) (Err (errors.InputTooLong most_certificate_bytes))
-    (answer_after (record { line = 1; rest = lines bytes }) >>= λ read.
-    Ok (record { answer = read.answer; lines = kept_numbers 1 (lines bytes); flow_heads = read.heads }))
+    cond (ltb most_answer_bytes (length bytes)) (Err (errors.InputTooLong most_answer_bytes))
+    (answer_after (start bytes) >>= λ read.
+    Ok (record { answer = read.0.answer; lines = read.1.taken; flow_heads = read.0.heads }))

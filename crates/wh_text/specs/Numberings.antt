@@ -1,9 +1,11 @@
 -- What is known of a certificate that was read: its parts fit together, and its lines are numbered.
 use Rattle.std.specs.Prelude.{◌≡◌, ℕ, ◌+◌, ◌*◌, ◌≤◌, length}
 use Rattle.std.specs.List.{All}
+use Rattle.wh_text.specs.AnswerTexts.{head_rows}
 use Rattle.wh_text.specs.AnswerData.{SideData, VerdictData, AnswerData, CertificateData}
 use Rattle.wh_text.specs.AnswerData.VerdictData.{yes, no_length, no_level, undecided}
 use Rattle.wh_text.specs.AnswerData.AnswerData.{reduce, decide}
+use Rattle.wh_words.specs.Limits.{most_level_rank}
 
 -- ---- ranks
 -- The end, the moves and the flows of a side are of rank n.
@@ -12,11 +14,11 @@ pub record IsSideOfRank (n : ℕ) (s : SideData) : Type 0 where
   pub moves : All (λ m. m.rank ≡ n) s.trace
   pub flows : length s.flows ≡ n
 
--- A level comes with ranks up to 6 alone.
+-- A level comes with low ranks alone.
 abbrev pub IsVerdictOfRank : ℕ → VerdictData → Type 0
 IsVerdictOfRank n (yes ms) = All (λ m. m.rank ≡ n) ms
 IsVerdictOfRank n (no_length a b) = IsSideOfRank n a × IsSideOfRank n b
-IsVerdictOfRank n (no_level a b ts) = IsSideOfRank n a × IsSideOfRank n b × All (λ t. t.rank ≡ n) ts × (n ≤ 6)
+IsVerdictOfRank n (no_level a b ts) = IsSideOfRank n a × IsSideOfRank n b × All (λ t. t.rank ≡ n) ts × (n ≤ most_level_rank)
 IsVerdictOfRank n (undecided bound) = ⊥
 
 -- All parts of an answer are of one rank, and it isn't undecided.
@@ -36,10 +38,14 @@ verdict_lines n (no_length a b) = 2 * side_lines n
 verdict_lines n (no_level a b ts) = 2 * side_lines n + 1 + length ts
 verdict_lines n (undecided bound) = 0
 
+-- How many lines stand before the sides.
+abbrev pub head_lines : AnswerData → ℕ
+head_lines a = length (head_rows a)
+
 -- How many lines of the text of an answer aren't skipped.
 abbrev pub answer_lines : AnswerData → ℕ
-answer_lines (reduce t s) = 3 + side_lines t.rank + 1
-answer_lines (decide s t v) = 5 + verdict_lines s.rank v + 1
+answer_lines (reduce t s) = head_lines (reduce t s) + side_lines t.rank + 1
+answer_lines (decide s t v) = head_lines (decide s t v) + verdict_lines s.rank v + 1
 
 -- How many `flow` lines a verdict has.
 abbrev pub verdict_flows : ℕ → VerdictData → ℕ

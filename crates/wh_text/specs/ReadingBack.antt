@@ -1,35 +1,18 @@
 -- Which answers are read back from their own text, and as what.
-use Rattle.std.specs.Prelude.{◌≡◌, ◌≢◌, ℕ, zero, suc, ◌+◌, ◌*◌, ◌^◌, ◌<◌, ◌≤◌, List, [], ◌∷◌, ◌++◌, length, get_or, Ok}
+use Rattle.std.specs.Prelude.{◌≡◌, ℕ, ◌+◌, ◌<◌, ◌≤◌, List, [], ◌++◌, length, get_or, Ok}
 use Rattle.std.specs.List.{All}
-use Rattle.wh_words.specs.Tuples.{TupleData, IsTuple}
-use Rattle.wh_words.specs.Moves.{Move, IsMove}
-use Rattle.wh_flow.specs.Nets.{cell}
-use Rattle.wh_text.specs.declared.answer.Answer.{Answer}
-use Rattle.wh_text.specs.Lines.{lines}
-use Rattle.wh_text.specs.FlowTexts.{flow_value, HasSmallValue}
-use Rattle.wh_text.specs.AnswerTexts.{answer_text}
-use Rattle.wh_text.specs.AnswerData.{SideData, VerdictData, AnswerData, answer_of}
+use Rattle.wh_words.specs.Limits.{most_rank, most_level_rank, most_level_tuples}
+use Rattle.wh_words.specs.Tuples.{IsTuple}
+use Rattle.wh_text.specs.AnswerTexts.{rows_of, answer_text}
+use Rattle.wh_text.specs.AnswerData.{SideData, VerdictData, AnswerData}
 use Rattle.wh_text.specs.AnswerData.VerdictData.{yes, no_length, no_level, undecided}
 use Rattle.wh_text.specs.AnswerData.AnswerData.{reduce, decide}
-use Rattle.wh_text.specs.Certificates.{most_certificate_bytes, certificate}
-
--- ---- answers whose text is a certificate
--- A move of rank n.
-abbrev pub IsMoveOf : ℕ → Move → Type 0
-IsMoveOf n m = IsMove m × (m.rank ≡ n)
-
--- A tuple of rank n with so many words.
-pub record IsTupleOf (n count : ℕ) (t : TupleData) : Type 0 where
-  pub tuple : IsTuple t
-  pub rank : t.rank ≡ n
-  pub size : length t.words ≡ count
-
--- The table of a flow of generator g in rank n: numbers below 2 ^ 32, more than 0 between different letters of the rank alone, and with a value that a line can tell.
-pub record IsFlowOf (n g : ℕ) (f : List ℕ) : Type 0 where
-  pub size : length f ≡ 2704
-  pub small : (x y : ℕ) → x < 52 → y < 52 → cell f x y < 2 ^ 32
-  pub of_rank : (x y : ℕ) → x < 52 → y < 52 → 0 < cell f x y → (x < 2 * n) × (y < 2 * n) × (x ≢ y)
-  pub value : HasSmallValue f (2 * g)
+use Rattle.wh_text.specs.Certificates.{certificate}
+use Rattle.wh_text.specs.Limits.{most_answer_bytes}
+use Rattle.wh_fields.specs.FlowFields.{IsFlowOf, heads_from}
+use Rattle.wh_fields.specs.MoveFields.{IsMoveOf}
+use Rattle.wh_fields.specs.TupleFields.{IsTupleOf}
+use Rattle.wh_lines.specs.Laws.{numbers_from}
 
 -- A side in rank n, whose end has so many words.
 pub record IsSideOf (n count : ℕ) (s : SideData) : Type 0 where
@@ -42,19 +25,13 @@ pub record IsSideOf (n count : ℕ) (s : SideData) : Type 0 where
 abbrev pub IsVerdictOf : ℕ → ℕ → VerdictData → Type 0
 IsVerdictOf n count (yes ms) = All (IsMoveOf n) ms
 IsVerdictOf n count (no_length a b) = IsSideOf n count a × IsSideOf n count b
-IsVerdictOf n count (no_level a b ts) = IsSideOf n count a × IsSideOf n count b × All (IsTupleOf n count) ts × (1 ≤ length ts) × (length ts ≤ 131072)
+IsVerdictOf n count (no_level a b ts) = IsSideOf n count a × IsSideOf n count b × All (IsTupleOf n count) ts × (1 ≤ length ts) × (length ts ≤ most_level_tuples)
 IsVerdictOf n count (undecided bound) = ⊥
 
 -- An answer that isn't undecided, of a rank that its command allows.
 abbrev pub IsCertificate : AnswerData → Type 0
-IsCertificate (reduce t s) = IsTuple t × (1 ≤ t.rank) × (t.rank ≤ 26) × IsSideOf t.rank (length t.words) s
-IsCertificate (decide s t v) = IsTuple s × (1 ≤ s.rank) × (s.rank ≤ 6) × IsTupleOf s.rank (length s.words) t × IsVerdictOf s.rank (length s.words) v
-
--- ---- what its text tells
--- The letters and values that the `flow` lines of some flows name, the first of them of generator g.
-abbrev pub heads_from : ℕ → List (List ℕ) → List (ℕ × ℕ)
-heads_from g [] = []
-heads_from g (f ∷ fs) = (2 * g, flow_value f (2 * g)) ∷ heads_from (g + 1) fs
+IsCertificate (reduce t s) = IsTuple t × (1 ≤ t.rank) × (t.rank ≤ most_rank) × IsSideOf t.rank (length t.words) s
+IsCertificate (decide s t v) = IsTuple s × (1 ≤ s.rank) × (s.rank ≤ most_level_rank) × IsTupleOf s.rank (length s.words) t × IsVerdictOf s.rank (length s.words) v
 
 abbrev pub verdict_heads : VerdictData → List (ℕ × ℕ)
 verdict_heads (yes ms) = []
@@ -67,12 +44,7 @@ abbrev pub heads_of : AnswerData → List (ℕ × ℕ)
 heads_of (reduce t s) = heads_from 0 s.flows
 heads_of (decide s t v) = verdict_heads v
 
--- So many numbers from l on.
-abbrev pub numbers_from : ℕ → ℕ → List ℕ
-numbers_from l zero = []
-numbers_from l (suc k) = l ∷ numbers_from (l + 1) k
-
 -- The text of an answer that is a certificate, where it isn't too long, is read back as that answer. No line of it is skipped.
 abbrev pub ReadsBack : Type 0
-ReadsBack = (a : Answer) → IsCertificate (answer_of a) → length (answer_text a) ≤ most_certificate_bytes →
-    certificate (answer_text a) ≡ Ok (record { answer = answer_of a; lines = numbers_from 1 (length (lines (answer_text a))); flow_heads = heads_of (answer_of a) })
+ReadsBack = (a : AnswerData) → IsCertificate a → length (answer_text a) ≤ most_answer_bytes →
+    certificate (answer_text a) ≡ Ok (record { answer = a; lines = numbers_from 1 (length (rows_of a)); flow_heads = heads_of a })

@@ -1,5 +1,7 @@
 //! Answers.
-ghost use Rattle.std.specs.Prelude.{◌≡◌};
+ghost use Rattle.std.specs.Prelude.{◌≡◌, ◌≤◌};
+ghost use Rattle.wh_text.specs.AnswerData.{answer_of};
+ghost use Rattle.wh_text.specs.Numberings.{head_lines};
 ghost use Rattle.wh_text.specs.Statuses.{verdict_status, answer_status};
 
 use crate::status::Status;
@@ -71,6 +73,17 @@ pub enum Answer {
 }
 
 impl Answer {
+    /// How many lines its text has before the sides.
+    pub fn head_lines(&self) -> usize
+        ensures same { result ≡ head_lines (answer_of self.now) }
+        ensures few { result ≤ 5 }
+    {
+        match self {
+            Answer::Reduce { .. } => 3,
+            Answer::Decide { .. } => 5,
+        }
+    }
+
     /// How a run ends that writes the answer: a no and an undecided verdict have a status of their own.
     pub fn status(&self) -> Status
         ensures { result ≡ answer_status self.now }

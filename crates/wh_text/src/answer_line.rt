@@ -1,140 +1,143 @@
 //! Reading of the lines of answers.
 ghost use Rattle.std.specs.Prelude.{◌≡◌, ℕ, ◌≤◌, length, map, IfOk, IfSome, codes};
-ghost use Rattle.wh_text.specs.Readings.{Gives};
-ghost use Rattle.wh_text.specs.TupleLines.{tuple_at};
-ghost use Rattle.wh_text.specs.KeptLines.{times};
-ghost use Rattle.wh_text.specs.FlowFields.{FlowData};
+ghost use Rattle.wh_lines.specs.Readings.{Gives, or_bad_line, refused_as};
+ghost use Rattle.wh_lines.specs.LineReadings.{Reads, times};
+ghost use Rattle.wh_fields.specs.TupleFields.{tuple_at};
+ghost use Rattle.wh_fields.specs.FlowFields.{FlowData};
+ghost use Rattle.wh_lines.specs.declared.read_error.ReadError.TheVariants.{BadLine};
 ghost use Rattle.wh_text.specs.Certificates as spec;
 
-use crate::field::Field;
-use crate::flow_field::{FlowLine, read_flow};
-use crate::kept_line::{Kept, Place, line_after};
-use crate::move_field::read_moves;
-use crate::number::canonical_number;
-use crate::read_error::ReadError;
-use crate::tuple_line::read_tuple;
 use std::alloc::Global;
+use wh_fields::{FlowLine, read_flow, read_moves, read_tuple};
+use wh_lines::{Field, Kept, ReadError, Reader, canonical_number};
 use wh_moves::Move;
 use wh_words::{List, Rank, Tuple};
 
-/// The tuple of a line. BadLine comes for each refusal of its words.
-fn tuple_of(alloc: Global, rank: Rank, kept: &Kept) -> Result<Tuple, ReadError>
-    ensures { Gives (λ t. t.plain) result (spec.or_bad_tuple kept.now.number (tuple_at rank kept.now.number kept.now.fields)) }
+/// The refusal in an answer of what is refused in a problem: a line with a cause of its own is a bad line.
+pub fn in_answer(error: ReadError) -> ReadError
+    ensures { result ≡ spec.in_answer error }
 {
-    match read_tuple(alloc, rank, kept.number(), kept.fields()) {
+    match error {
+        ReadError::NoRank { line } => ReadError::BadLine { line },
+        ReadError::RankRange { line } => ReadError::BadLine { line },
+        ReadError::TooManyWords { line, .. } => ReadError::BadLine { line },
+        ReadError::BadLetter { line, .. } => ReadError::BadLine { line },
+        ReadError::LongTuple { line, .. } => ReadError::BadLine { line },
+        other => other,
+    }
+}
+
+/// The tuple of a line. BadLine comes for each refusal of its words.
+#[tactic(auto, using(wh_lines::proofs::Equations::refused_by))]
+fn tuple_of(alloc: Global, rank: Rank, kept: &Kept) -> Result<Tuple, ReadError>
+    ensures { Gives (λ t. t.plain) result (refused_as spec.in_answer (tuple_at rank kept.now.number kept.now.fields)) }
+{
+    match read_tuple(alloc, rank, kept.number() as u64, kept.fields()) {
         Ok(tuple) => Ok(tuple),
-        Err(ReadError::OutOfMemory) => Err(ReadError::OutOfMemory),
-        Err(_) => Err(ReadError::BadLine {
-            line: kept.number(),
-        }),
+        Err(error) => Err(in_answer(error)),
+    }
+}
+
+/// The refusal of a line that doesn't continue an answer.
+pub fn bad_line(kept: &Kept) -> ReadError
+    ensures { result ≡ BadLine kept.now.number }
+{
+    ReadError::BadLine {
+        line: kept.number() as u64,
     }
 }
 
 /// The tuple of the next line, which has this keyword.
 #[tactic(auto, unfolding(crate::specs::Certificates::tuple_after))]
-pub fn tuple_after<'a>(
+pub fn tuple_after(
     alloc: Global,
     keyword: &[u8],
     rank: Rank,
-    place: Place<'a>,
-) -> Result<(Tuple, Place<'a>), ReadError>
-    ensures { Gives (λ r. (r.0.plain, r.1)) result (spec.tuple_after keyword.now rank place.entry) }
+    reader: &mut Reader,
+) -> Result<Tuple, ReadError>
+    ensures { Reads (λ t. t.plain) result reader.new (spec.tuple_after keyword.now rank reader.old) }
 {
-    let (kept, place) = line_after(alloc, keyword, place)?;
-    let tuple = tuple_of(alloc, rank, &kept)?;
-    Ok((tuple, place))
+    let kept = reader.line_after(keyword)?;
+    tuple_of(alloc, rank, &kept)
 }
 
 /// The tuple of the next line, which has this keyword and so many words.
 #[tactic(auto, unfolding(crate::specs::Certificates::like_after))]
-pub fn like_after<'a>(
+pub fn like_after(
     alloc: Global,
     keyword: &[u8],
     rank: Rank,
     count: usize,
-    place: Place<'a>,
-) -> Result<(Tuple, Place<'a>), ReadError>
-    ensures { Gives (λ r. (r.0.plain, r.1)) result (spec.like_after keyword.now rank count place.entry) }
+    reader: &mut Reader,
+) -> Result<Tuple, ReadError>
+    ensures { Reads (λ t. t.plain) result reader.new (spec.like_after keyword.now rank count reader.old) }
 {
-    let (kept, place) = line_after(alloc, keyword, place)?;
+    let kept = reader.line_after(keyword)?;
     let tuple = tuple_of(alloc, rank, &kept)?;
     if tuple.count() != count {
-        return Err(ReadError::BadLine {
-            line: kept.number(),
-        });
+        return Err(bad_line(&kept));
     }
-    Ok((tuple, place))
+    Ok(tuple)
 }
 
 /// The moves of the next line, which has this keyword.
 #[tactic(auto, unfolding(crate::specs::Certificates::moves_after))]
-pub fn moves_after<'a>(
+pub fn moves_after(
     alloc: Global,
     keyword: &[u8],
     rank: Rank,
-    place: Place<'a>,
-) -> Result<(List<Move>, Place<'a>), ReadError>
-    ensures { Gives (λ r. r) result (spec.moves_after keyword.now rank place.entry) }
+    reader: &mut Reader,
+) -> Result<List<Move>, ReadError>
+    ensures { Reads (λ ms. ms) result reader.new (spec.moves_after keyword.now rank reader.old) }
 {
-    let (kept, place) = line_after(alloc, keyword, place)?;
-    let moves = read_moves(alloc, rank, kept.number(), kept.fields())?;
-    Ok((moves, place))
+    let kept = reader.line_after(keyword)?;
+    read_moves(alloc, rank, kept.number() as u64, kept.fields())
 }
 
 /// What the next line tells, which is a `flow` line.
 #[tactic(auto, unfolding(crate::specs::Certificates::flow_after))]
-fn flow_after<'a>(
-    alloc: Global,
-    rank: Rank,
-    place: Place<'a>,
-) -> Result<(FlowLine, Place<'a>), ReadError>
-    ensures { Gives (λ r. r) result (spec.flow_after rank place.entry) }
+fn flow_after(rank: Rank, reader: &mut Reader) -> Result<FlowLine, ReadError>
+    ensures { Reads (λ f. f) result reader.new (spec.flow_after rank reader.old) }
 {
-    let (kept, place) = line_after(alloc, b"flow", place)?;
+    let kept = reader.line_after(b"flow")?;
     match read_flow(rank.get(), kept.fields()) {
-        Some(flow) => Ok((flow, place)),
-        None => Err(ReadError::BadLine {
-            line: kept.number(),
-        }),
+        Some(flow) => Ok(flow),
+        None => Err(bad_line(&kept)),
     }
 }
 
 /// What the next lines tell, which are a `flow` line for each generator.
-pub fn flows_after<'a>(
+pub fn flows_after(
     alloc: Global,
     rank: Rank,
-    place: Place<'a>,
-) -> Result<(Vec<FlowLine>, Place<'a>), ReadError>
-    ensures { Gives (λ r. (r.0.items, r.1)) result (times (spec.flow_after rank) rank place.entry) }
+    reader: &mut Reader,
+) -> Result<Vec<FlowLine>, ReadError>
+    ensures { Reads (λ v. v.items) result reader.new (times (spec.flow_after rank) rank reader.old) }
 {
     let mut flows = Vec::new(alloc);
-    let mut place = place;
     for _ in 0..rank.get() {
-        let (flow, behind) = flow_after(alloc, rank, place)?;
+        let flow = flow_after(rank, reader)?;
         flows.push(flow)?;
-        place = behind;
     }
-    Ok((flows, place))
+    Ok(flows)
 }
 
 /// The tuples of the next lines, which are so many `at` lines.
-pub fn tuples_after<'a>(
+pub fn tuples_after(
     alloc: Global,
     rank: Rank,
     count: usize,
     size: usize,
-    place: Place<'a>,
-) -> Result<(Vec<Tuple>, Place<'a>), ReadError>
-    ensures { Gives (λ r. (map (λ t. t.plain) r.0.items, r.1)) result (times (spec.like_after (codes "at") rank count) size place.entry) }
+    reader: &mut Reader,
+) -> Result<Vec<Tuple>, ReadError>
+    ensures { Reads (λ v. map (λ t. t.plain) v.items) result reader.new (times (spec.like_after (codes "at") rank count) size reader.old) }
 {
     let mut tuples = Vec::new(alloc);
-    let mut place = place;
     for _ in 0..size {
-        let (tuple, behind) = like_after(alloc, b"at", rank, count, place)?;
+        let tuple = like_after(alloc, b"at", rank, count, reader)?;
         tuples.push(tuple)?;
-        place = behind;
     }
-    Ok((tuples, place))
+    Ok(tuples)
 }
 
 /// A number, where there is one of a range.
@@ -150,7 +153,7 @@ fn within(least: u64, most: u64, number: Option<u64>) -> Option<u64>
 
 /// The number of the one field. BadLine comes where there is another number of fields, or no number of the range.
 pub fn read_number(line: u64, least: u64, most: u64, fields: &[Field]) -> Result<u64, ReadError>
-    ensures number { Gives (λ n. n) result (spec.or_bad_line line (spec.number_in least most fields.now)) }
+    ensures number { Gives (λ n. n) result (or_bad_line line (spec.number_in least most fields.now)) }
     ensures within { IfOk result (λ n. (least ≤ n) × (n ≤ most)) }
 {
     let number = match fields {

@@ -1,32 +1,27 @@
 //! Reading of answers that can be checked.
-ghost use Rattle.std.specs.Prelude.{◌≡◌, ◌<◌, ◌≤◌, ◌==◌, ◌++◌, ◌∷◌, [], cond, length, OnOk, IfOk, IfErr, Ok, Err};
-ghost use Rattle.std.specs.List.{list_all};
-ghost use Rattle.wh_text.specs.declared.read_error.ReadError.TheVariants.{InputTooLong};
-ghost use Rattle.wh_text.specs.Lines.{lines};
-ghost use Rattle.wh_text.specs.Readings.{Gives, Refuses};
+ghost use Rattle.std.specs.Prelude.{◌≡◌, ◌<◌, ◌≤◌, length, IfOk, IfErr, Ok, Err};
+ghost use Rattle.wh_lines.specs.declared.read_error.ReadError.TheVariants.{InputTooLong};
+ghost use Rattle.wh_lines.specs.Readings.{Gives, Refuses, refused_as};
+ghost use Rattle.wh_lines.specs.LineReadings.{Reads};
 ghost use Rattle.wh_text.specs.AnswerData.{certificate_of};
-ghost use Rattle.wh_text.specs.KeptLines.{is_skipped, kept_numbers};
+ghost use Rattle.wh_text.specs.RankLines as ranks;
 ghost use Rattle.wh_text.specs.Certificates as spec;
-ghost use Rattle.wh_text.specs.Certificates.{certificate, most_certificate_bytes};
+ghost use Rattle.wh_text.specs.Certificates.{certificate};
+ghost use Rattle.wh_text.specs.Limits.{most_answer_bytes};
 ghost use Rattle.wh_text.specs.Numberings.{IsNumbered};
 
 use crate::answer::Answer;
-use crate::answer_line::{like_after, read_number, tuple_after};
+use crate::answer_line::{bad_line, in_answer, like_after, tuple_after};
 use crate::command::Command;
-use crate::field::Field;
-use crate::kept_line::{Place, end_after, line_after};
-use crate::line::{after, before, is_comment};
+use crate::limits::MOST_ANSWER_BYTES;
 use crate::numbered::Numbered;
-use crate::read_error::ReadError;
-use crate::sheet::allowed_rank;
+use crate::rank_line::read_rank;
 use crate::side_reading::side_after;
 use crate::verdict_reading::verdict_after;
 use std::alloc::Global;
 use std::marker::Model;
-use wh_words::{Letter, List, OutOfMemory, Rank};
-
-/// How many bytes the text of an answer may have.
-const MOST_BYTES: usize = 67108864;
+use wh_lines::{Field, ReadError, Reader};
+use wh_words::{Letter, List, Rank};
 
 /// An answer, and the letters and values that its `flow` lines name.
 #[derive(Drop)]
@@ -71,147 +66,107 @@ fn read_heading(line: u64, fields: &[Field]) -> Result<Command, ReadError>
 
 /// The command of the next line, which is a heading.
 #[tactic(auto, unfolding(crate::specs::Certificates::heading_after))]
-fn heading_after<'a>(alloc: Global, place: Place<'a>) -> Result<(Command, Place<'a>), ReadError>
-    ensures { Gives (λ r. r) result (spec.heading_after place.entry) }
+fn heading_after(reader: &mut Reader) -> Result<Command, ReadError>
+    ensures { Reads (λ c. c) result reader.new (spec.heading_after reader.old) }
 {
-    let (kept, place) = line_after(alloc, b"whitehead", place)?;
-    let command = read_heading(kept.number(), kept.fields())?;
-    Ok((command, place))
+    let kept = reader.line_after(b"whitehead")?;
+    read_heading(kept.number() as u64, kept.fields())
 }
 
 /// The rank of the next line, which the command allows.
-#[tactic(auto, unfolding(crate::specs::Certificates::rank_after))]
-fn rank_after<'a>(
-    alloc: Global,
-    command: Command,
-    place: Place<'a>,
-) -> Result<(Rank, Place<'a>), ReadError>
-    ensures { Gives (λ r. r) result (spec.rank_after command place.entry) }
+#[tactic(auto, using(wh_lines::proofs::Equations::refused_by))]
+fn rank_after(command: Command, reader: &mut Reader) -> Result<Rank, ReadError>
+    ensures { Reads (λ n. n) result reader.new (refused_as spec.in_answer (ranks.rank_after command reader.old)) }
 {
-    let (kept, place) = line_after(alloc, b"rank", place)?;
-    let number = read_number(kept.number(), 1, 26, kept.fields())?;
-    let rank = allowed_rank(command, number)?;
-    Ok((rank, place))
+    match read_rank(command, reader) {
+        Ok(rank) => Ok(rank),
+        Err(error) => Err(in_answer(error)),
+    }
 }
 
 /// The answer of `reduce` that the next lines tell.
 #[tactic(auto, unfolding(crate::specs::Certificates::reduced_after))]
-fn reduced_after<'a>(
-    alloc: Global,
-    rank: Rank,
-    place: Place<'a>,
-) -> Result<(ReadAnswer, Place<'a>), ReadError>
-    ensures { Gives (λ r. r) result (spec.reduced_after rank place.entry) }
+fn reduced_after(alloc: Global, rank: Rank, reader: &mut Reader) -> Result<ReadAnswer, ReadError>
+    ensures { Reads (λ a. a) result reader.new (spec.reduced_after rank reader.old) }
 {
-    let (tuple, place) = tuple_after(alloc, b"tuple", rank, place)?;
-    let (side, place) = side_after(alloc, rank, tuple.count(), place)?;
-    let answer = ReadAnswer {
+    let tuple = tuple_after(alloc, b"tuple", rank, reader)?;
+    let side = side_after(alloc, rank, tuple.count(), reader)?;
+    Ok(ReadAnswer {
         answer: Answer::Reduce {
             tuple,
             side: side.side,
         },
         heads: side.heads,
-    };
-    Ok((answer, place))
+    })
 }
 
 /// The answer of `decide` that the next lines tell.
 #[tactic(auto, unfolding(crate::specs::Certificates::decided_after))]
-fn decided_after<'a>(
-    alloc: Global,
-    rank: Rank,
-    place: Place<'a>,
-) -> Result<(ReadAnswer, Place<'a>), ReadError>
-    ensures { Gives (λ r. r) result (spec.decided_after rank place.entry) }
+fn decided_after(alloc: Global, rank: Rank, reader: &mut Reader) -> Result<ReadAnswer, ReadError>
+    ensures { Reads (λ a. a) result reader.new (spec.decided_after rank reader.old) }
 {
-    let (first, place) = tuple_after(alloc, b"first", rank, place)?;
-    let (second, place) = like_after(alloc, b"second", rank, first.count(), place)?;
-    let (verdict, place) = verdict_after(alloc, rank, first.count(), place)?;
-    let answer = ReadAnswer {
+    let first = tuple_after(alloc, b"first", rank, reader)?;
+    let second = like_after(alloc, b"second", rank, first.count(), reader)?;
+    let verdict = verdict_after(alloc, rank, first.count(), reader)?;
+    Ok(ReadAnswer {
         answer: Answer::Decide {
             first,
             second,
             verdict: verdict.verdict,
         },
         heads: verdict.heads,
-    };
-    Ok((answer, place))
+    })
 }
 
 /// The answer of a command that the next lines tell.
-fn answer_with<'a>(
+fn answer_with(
     alloc: Global,
     command: Command,
     rank: Rank,
-    place: Place<'a>,
-) -> Result<(ReadAnswer, Place<'a>), ReadError>
-    ensures { Gives (λ r. r) result (spec.answer_with command rank place.entry) }
+    reader: &mut Reader,
+) -> Result<ReadAnswer, ReadError>
+    ensures { Reads (λ a. a) result reader.new (spec.answer_with command rank reader.old) }
 {
     match command {
-        Command::Reduce => reduced_after(alloc, rank, place),
-        Command::Decide => decided_after(alloc, rank, place),
+        Command::Reduce => reduced_after(alloc, rank, reader),
+        Command::Decide => decided_after(alloc, rank, reader),
     }
 }
 
-/// The end of a text after its next line, which is `done`.
+/// Comes to the end of a text after its next line, which is `done`.
 #[tactic(auto, unfolding(crate::specs::Certificates::done_after))]
-fn done_after(alloc: Global, place: Place) -> Result<Place, ReadError>
-    ensures { Gives (λ p. p) result (spec.done_after place.entry) }
+fn done_after(reader: &mut Reader) -> Result<(), ReadError>
+    ensures { Reads (λ u. u) result reader.new (spec.done_after reader.old) }
 {
-    let (kept, place) = line_after(alloc, b"done", place)?;
+    let kept = reader.line_after(b"done")?;
     if !kept.fields().is_empty() {
-        return Err(ReadError::BadLine {
-            line: kept.number(),
-        });
+        return Err(bad_line(&kept));
     }
-    end_after(alloc, place)
+    reader.at_end()
+}
+
+/// An answer, where the text ends behind it.
+fn with_end(answer: ReadAnswer, reader: &mut Reader) -> Result<ReadAnswer, ReadError>
+    ensures { Reads (λ a. a) result reader.new (spec.with_end answer reader.old) }
+{
+    match done_after(reader) {
+        Ok(()) => Ok(answer),
+        Err(error) => {
+            drop(answer);
+            Err(error)
+        }
+    }
 }
 
 /// The answer that a text tells, from its heading to its end.
 #[tactic(auto, unfolding(crate::specs::Certificates::answer_after))]
-fn answer_after(alloc: Global, place: Place) -> Result<ReadAnswer, ReadError>
-    ensures { Gives (λ a. a) result (spec.answer_after place.entry) }
+fn answer_after(alloc: Global, reader: &mut Reader) -> Result<ReadAnswer, ReadError>
+    ensures { Reads (λ a. a) result reader.new (spec.answer_after reader.old) }
 {
-    let (command, place) = heading_after(alloc, place)?;
-    let (rank, place) = rank_after(alloc, command, place)?;
-    let (answer, place) = answer_with(alloc, command, rank, place)?;
-    done_after(alloc, place)?;
-    Ok(answer)
-}
-
-/// Whether a line has no bytes but spaces.
-fn is_blank(line: &[u8]) -> bool
-    ensures { result ≡ list_all (λ b. b == 32) line.now }
-{
-    line.iter().all(|byte| *byte == b' ')
-}
-
-/// Adds the number of a line, where it isn't skipped.
-fn push_number(numbers: &mut Vec<u32>, line: u32, bytes: &[u8]) -> Result<(), OutOfMemory>
-    ensures { OnOk result (numbers.new.items ≡ numbers.old.items ++ cond (is_skipped bytes.now) [] (line ∷ [])) }
-{
-    if is_comment(bytes) || is_blank(bytes) {
-        return Ok(());
-    }
-    numbers.push(line)?;
-    Ok(())
-}
-
-/// The numbers of the lines that aren't skipped.
-fn line_numbers(alloc: Global, bytes: &[u8]) -> Result<Vec<u32>, OutOfMemory>
-    requires { length bytes.now ≤ most_certificate_bytes }
-    ensures { IfOk result (λ v. v.items ≡ kept_numbers 1 (lines bytes.now)) }
-{
-    let mut numbers = Vec::new(alloc);
-    let mut line = 1;
-    let mut rest = bytes;
-    'lines: while !rest.is_empty() {
-        let count = before(b'\n', rest);
-        push_number(&mut numbers, line, &rest[..count])?;
-        rest = after(rest, count + 1);
-        line += 1;
-    }
-    Ok(numbers)
+    let command = heading_after(reader)?;
+    let rank = rank_after(command, reader)?;
+    let answer = answer_with(alloc, command, rank, reader)?;
+    with_end(answer, reader)
 }
 
 /// The answer of `reduce` or `decide` that a text tells, whoever wrote it, with the numbers of its lines. Lines that begin
@@ -226,18 +181,18 @@ pub fn read_answer(alloc: Global, bytes: &[u8]) -> Result<Numbered, ReadError>
     ensures read { IfOk result (λ n. certificate bytes.now ≡ Ok (certificate_of n)) }
     ensures numbered { IfOk result (λ n. IsNumbered (certificate_of n)) }
     ensures refused { IfErr result (Refuses (certificate bytes.now)) }
-    ensures too_long { most_certificate_bytes < length bytes.now → result ≡ Err (InputTooLong most_certificate_bytes) }
+    ensures too_long { most_answer_bytes < length bytes.now → result ≡ Err (InputTooLong most_answer_bytes) }
 {
-    if bytes.len() > MOST_BYTES {
+    if bytes.len() > MOST_ANSWER_BYTES {
         return Err(ReadError::InputTooLong {
-            limit: MOST_BYTES as u64,
+            limit: MOST_ANSWER_BYTES as u64,
         });
     }
-    let ReadAnswer { answer, heads } = answer_after(alloc, Place::start(bytes))?;
-    let numbers = line_numbers(alloc, bytes)?;
+    let mut reader = Reader::new(alloc, bytes);
+    let ReadAnswer { answer, heads } = answer_after(alloc, &mut reader)?;
     Ok(Numbered {
         answer,
-        lines: List::of(numbers),
+        lines: List::of(reader.into_taken()),
         flow_heads: List::of(heads),
     })
 }

@@ -1,36 +1,7 @@
 //! Laws of reading, each the contract of an empty function.
 ghost use Rattle.wh_text.specs.ReadingBack.{ReadsBack};
-ghost use Rattle.wh_text.specs.Laws.{ReadsNumbers, ReadsLetters, ReadsWords, NamesTheFirstBadLetter, ReadsLines, ReadsFields, ReadsReduceTexts, ReadsDecideTexts, NamesTheFirstBadByte};
-
-/// A number is read exactly from its decimal digits.
-pub fn numbers()
-    ensures { ReadsNumbers }
-{}
-
-/// Letters are read exactly from their bytes.
-pub fn letters()
-    ensures { ReadsLetters }
-{}
-
-/// A word is read exactly from its text.
-pub fn words()
-    ensures { ReadsWords }
-{}
-
-/// A refusal of a letter names the leftmost byte that is none.
-pub fn first_bad_letter()
-    ensures { NamesTheFirstBadLetter }
-{}
-
-/// The lines of a text are those that were written.
-pub fn lines()
-    ensures { ReadsLines }
-{}
-
-/// The fields of a line are the longest runs of bytes other than space.
-pub fn fields()
-    ensures { ReadsFields }
-{}
+ghost use Rattle.wh_text.specs.CertificateTexts.{ReadsCertificates, NamesTheFirstBadLine};
+ghost use Rattle.wh_text.specs.Laws.{ReadsReduceTexts, ReadsDecideTexts, NamesTheFirstBadByte, CountsRows};
 
 /// A text is accepted exactly where it is spelled as a problem of `reduce`.
 pub fn reduce_texts()
@@ -50,4 +21,21 @@ pub fn first_bad_byte()
 /// What is printed for an answer that is a certificate is read back as that answer.
 pub fn printed_answers()
     ensures { ReadsBack }
+{}
+
+/// An answer has as many rows as its lines are counted.
+pub fn row_counts()
+    ensures { CountsRows }
+{}
+
+/// A text is accepted as a certificate exactly where it is spelled as one.
+pub fn certificates()
+    ensures { ReadsCertificates }
+{}
+
+/// A text that is refused at a line is refused at the first that no certificate with the lines before it has: some
+/// certificate has those lines, and none has this line after them. Where the text ends too early, this is the place past
+/// the end.
+pub fn refused_lines()
+    ensures { NamesTheFirstBadLine }
 {}

@@ -1,11 +1,10 @@
 //! Printing of refusals.
 ghost use Rattle.std.specs.Prelude.{◌≡◌, ◌≢◌, ◌++◌, IfOk, OnOk, codes, decimal};
-ghost use Rattle.wh_text.specs.declared.read_error.ReadError.TheVariants as errors;
+ghost use Rattle.wh_lines.specs.declared.read_error.ReadError.TheVariants as errors;
 ghost use Rattle.wh_text.specs.RefusalTexts.{cause_text, refusal_text, refused_words_text};
 
-use crate::field_printer::push_number;
-use crate::read_error::ReadError;
 use std::alloc::Global;
+use wh_lines::{ReadError, print_number};
 use wh_words::OutOfMemory;
 
 /// The line for refused words of the command line.
@@ -20,7 +19,7 @@ fn push_one(out: &mut Vec<u8>, text: &[u8], n: u64) -> Result<(), OutOfMemory>
     ensures { OnOk result (out.new.items ≡ out.old.items ++ (text.now ++ decimal n)) }
 {
     out.extend_from_slice(text)?;
-    push_number(out, n)
+    print_number(out, n)
 }
 
 /// Writes a text and a number, and another text and another number.

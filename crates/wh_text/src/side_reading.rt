@@ -1,19 +1,18 @@
 //! Reading of sides and levels.
 ghost use Rattle.std.specs.Prelude.{◌≡◌, map, IfOk, codes};
-ghost use Rattle.wh_text.specs.Readings.{Gives};
+ghost use Rattle.wh_lines.specs.LineReadings.{Reads};
 ghost use Rattle.wh_text.specs.AnswerData.{plains};
 ghost use Rattle.wh_text.specs.Certificates as spec;
 
 use crate::answer::Side;
 use crate::answer_line::{flows_after, like_after, moves_after, read_number, tuples_after};
-use crate::flow_field::FlowLine;
-use crate::kept_line::{Place, line_after};
-use crate::read_error::ReadError;
 use std::alloc::Global;
 use std::marker::Model;
+use wh_fields::FlowLine;
 use wh_flow::Flow;
+use wh_lines::{ReadError, Reader};
 use wh_moves::Move;
-use wh_words::{Letter, List, OutOfMemory, Rank, Tuple};
+use wh_words::{Letter, List, MOST_LEVEL_TUPLES, OutOfMemory, Rank, Tuple};
 
 /// A side, and the letters and values that its `flow` lines name.
 #[derive(Drop)]
@@ -71,33 +70,37 @@ fn side_with(
 
 /// The side that the next lines tell: `trace`, `end`, and a `flow` line for each generator.
 #[tactic(auto, unfolding(crate::specs::Certificates::side_after))]
-pub fn side_after<'a>(
+pub fn side_after(
     alloc: Global,
     rank: Rank,
     count: usize,
-    place: Place<'a>,
-) -> Result<(ReadSide, Place<'a>), ReadError>
-    ensures { Gives (λ r. r) result (spec.side_after rank count place.entry) }
+    reader: &mut Reader,
+) -> Result<ReadSide, ReadError>
+    ensures { Reads (λ s. s) result reader.new (spec.side_after rank count reader.old) }
 {
-    let (trace, place) = moves_after(alloc, b"trace", rank, place)?;
-    let (end, place) = like_after(alloc, b"end", rank, count, place)?;
-    let (lines, place) = flows_after(alloc, rank, place)?;
-    let side = side_with(alloc, trace, end, lines)?;
-    Ok((side, place))
+    let trace = moves_after(alloc, b"trace", rank, reader)?;
+    let end = like_after(alloc, b"end", rank, count, reader)?;
+    let lines = flows_after(alloc, rank, reader)?;
+    Ok(side_with(alloc, trace, end, lines)?)
 }
 
 /// The level that the next lines tell: `level` with the number of its tuples, 1 to 131,072, and an `at` line for each.
 #[tactic(auto, unfolding(crate::specs::Certificates::level_after))]
-pub fn level_after<'a>(
+pub fn level_after(
     alloc: Global,
     rank: Rank,
     count: usize,
-    place: Place<'a>,
-) -> Result<(List<Tuple>, Place<'a>), ReadError>
-    ensures { Gives (λ r. (plains r.0, r.1)) result (spec.level_after rank count place.entry) }
+    reader: &mut Reader,
+) -> Result<List<Tuple>, ReadError>
+    ensures { Reads plains result reader.new (spec.level_after rank count reader.old) }
 {
-    let (kept, place) = line_after(alloc, b"level", place)?;
-    let size = read_number(kept.number(), 1, 131072, kept.fields())?;
-    let (tuples, place) = tuples_after(alloc, rank, count, size as usize, place)?;
-    Ok((List::of(tuples), place))
+    let kept = reader.line_after(b"level")?;
+    let size = read_number(
+        kept.number() as u64,
+        1,
+        MOST_LEVEL_TUPLES as u64,
+        kept.fields(),
+    )?;
+    let tuples = tuples_after(alloc, rank, count, size as usize, reader)?;
+    Ok(List::of(tuples))
 }

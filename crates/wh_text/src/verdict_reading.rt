@@ -1,20 +1,18 @@
 //! Reading of verdicts.
 ghost use Rattle.std.specs.Prelude.{◌≡◌, IfOk, ◌++◌};
-ghost use Rattle.wh_text.specs.Readings.{Gives};
+ghost use Rattle.wh_lines.specs.Readings.{Gives};
+ghost use Rattle.wh_lines.specs.LineReadings.{Reads};
 ghost use Rattle.wh_text.specs.Certificates as spec;
 ghost use Rattle.wh_text.specs.AnswerData.{plains};
-ghost use Rattle.wh_text.specs.AnswerData.VerdictData.{no_level};
+ghost use Rattle.wh_text.specs.AnswerData.VerdictData.{no_length, no_level};
 ghost use Rattle.wh_text.specs.VerdictWords.{word_of};
 
 use crate::answer::Verdict;
 use crate::answer_line::moves_after;
-use crate::field::Field;
-use crate::kept_line::{Place, line_after};
-use crate::number::canonical_number;
-use crate::read_error::ReadError;
 use crate::side_reading::{ReadSide, level_after, side_after};
 use std::alloc::Global;
 use std::marker::Model;
+use wh_lines::{Field, ReadError, Reader, canonical_number};
 use wh_words::{Letter, List, OutOfMemory, Rank, Tuple};
 
 /// A verdict, and the letters and values that its `flow` lines name.
@@ -77,51 +75,65 @@ fn joined(
 }
 
 /// The yes that the next line tells.
-fn yes_after<'a>(
-    alloc: Global,
-    rank: Rank,
-    place: Place<'a>,
-) -> Result<(ReadVerdict, Place<'a>), ReadError>
-    ensures { Gives (λ r. r) result (spec.yes_after rank place.entry) }
+fn yes_after(alloc: Global, rank: Rank, reader: &mut Reader) -> Result<ReadVerdict, ReadError>
+    ensures { Reads (λ v. v) result reader.new (spec.yes_after rank reader.old) }
 {
-    let (moves, place) = moves_after(alloc, b"moves", rank, place)?;
-    let verdict = ReadVerdict {
+    let moves = moves_after(alloc, b"moves", rank, reader)?;
+    Ok(ReadVerdict {
         verdict: Verdict::Yes(moves),
         heads: Vec::new(alloc),
-    };
-    Ok((verdict, place))
+    })
 }
 
 /// The two sides that the next lines tell.
 #[tactic(auto, unfolding(crate::specs::Certificates::sides_after))]
-fn sides_after<'a>(
+fn sides_after(
     alloc: Global,
     rank: Rank,
     count: usize,
-    place: Place<'a>,
-) -> Result<((ReadSide, ReadSide), Place<'a>), ReadError>
-    ensures { Gives (λ r. r) result (spec.sides_after rank count place.entry) }
+    reader: &mut Reader,
+) -> Result<(ReadSide, ReadSide), ReadError>
+    ensures { Reads (λ s. s) result reader.new (spec.sides_after rank count reader.old) }
 {
-    let (first, place) = side_after(alloc, rank, count, place)?;
-    let (second, place) = side_after(alloc, rank, count, place)?;
-    Ok(((first, second), place))
+    let first = side_after(alloc, rank, count, reader)?;
+    match side_after(alloc, rank, count, reader) {
+        Ok(second) => Ok((first, second)),
+        Err(error) => {
+            drop(first);
+            Err(error)
+        }
+    }
+}
+
+/// The no of two sides.
+fn no_length(first: ReadSide, second: ReadSide) -> Result<ReadVerdict, OutOfMemory>
+    ensures { IfOk result (λ v. v ≡ record { verdict = no_length first.side second.side; heads = first.heads ++ second.heads }) }
+{
+    let ReadSide { side, heads } = first;
+    match joined(heads, second.heads) {
+        Ok(heads) => Ok(ReadVerdict {
+            verdict: Verdict::NoLength(side, second.side),
+            heads,
+        }),
+        Err(error) => {
+            drop(side);
+            drop(second.side);
+            Err(error)
+        }
+    }
 }
 
 /// The no by lengths that the next lines tell.
-fn no_length_after<'a>(
+fn no_length_after(
     alloc: Global,
     rank: Rank,
     count: usize,
-    place: Place<'a>,
-) -> Result<(ReadVerdict, Place<'a>), ReadError>
-    ensures { Gives (λ r. r) result (spec.no_length_after rank count place.entry) }
+    reader: &mut Reader,
+) -> Result<ReadVerdict, ReadError>
+    ensures { Reads (λ v. v) result reader.new (spec.no_length_after rank count reader.old) }
 {
-    let ((first, second), place) = sides_after(alloc, rank, count, place)?;
-    let verdict = ReadVerdict {
-        verdict: Verdict::NoLength(first.side, second.side),
-        heads: joined(first.heads, second.heads)?,
-    };
-    Ok((verdict, place))
+    let (first, second) = sides_after(alloc, rank, count, reader)?;
+    Ok(no_length(first, second)?)
 }
 
 /// The no of two sides and a level.
@@ -132,41 +144,55 @@ fn no_level(
 ) -> Result<ReadVerdict, OutOfMemory>
     ensures { IfOk result (λ v. v ≡ record { verdict = no_level first.side second.side (plains level); heads = first.heads ++ second.heads }) }
 {
-    Ok(ReadVerdict {
-        verdict: Verdict::NoLevel(first.side, second.side, level),
-        heads: joined(first.heads, second.heads)?,
-    })
+    let ReadSide { side, heads } = first;
+    match joined(heads, second.heads) {
+        Ok(heads) => Ok(ReadVerdict {
+            verdict: Verdict::NoLevel(side, second.side, level),
+            heads,
+        }),
+        Err(error) => {
+            drop(side);
+            drop(second.side);
+            drop(level);
+            Err(error)
+        }
+    }
 }
 
 /// The no by a level that the next lines tell.
-fn no_level_after<'a>(
+fn no_level_after(
     alloc: Global,
     rank: Rank,
     count: usize,
-    place: Place<'a>,
-) -> Result<(ReadVerdict, Place<'a>), ReadError>
-    ensures { Gives (λ r. r) result (spec.no_level_after rank count place.entry) }
+    reader: &mut Reader,
+) -> Result<ReadVerdict, ReadError>
+    ensures { Reads (λ v. v) result reader.new (spec.no_level_after rank count reader.old) }
 {
-    let ((first, second), place) = sides_after(alloc, rank, count, place)?;
-    let (level, place) = level_after(alloc, rank, count, place)?;
-    let verdict = no_level(first, second, level)?;
-    Ok((verdict, place))
+    let (first, second) = sides_after(alloc, rank, count, reader)?;
+    match level_after(alloc, rank, count, reader) {
+        Ok(level) => Ok(no_level(first, second, level)?),
+        Err(error) => {
+            drop(first);
+            drop(second);
+            Err(error)
+        }
+    }
 }
 
 /// The verdict that the next lines tell.
 #[tactic(auto, unfolding(crate::specs::Certificates::verdict_after))]
-pub fn verdict_after<'a>(
+pub fn verdict_after(
     alloc: Global,
     rank: Rank,
     count: usize,
-    place: Place<'a>,
-) -> Result<(ReadVerdict, Place<'a>), ReadError>
-    ensures { Gives (λ r. r) result (spec.verdict_after rank count place.entry) }
+    reader: &mut Reader,
+) -> Result<ReadVerdict, ReadError>
+    ensures { Reads (λ v. v) result reader.new (spec.verdict_after rank count reader.old) }
 {
-    let (kept, place) = line_after(alloc, b"verdict", place)?;
-    match read_word(kept.number(), kept.fields())? {
-        Word::Yes => yes_after(alloc, rank, place),
-        Word::NoLength => no_length_after(alloc, rank, count, place),
-        Word::NoLevel => no_level_after(alloc, rank, count, place),
+    let kept = reader.line_after(b"verdict")?;
+    match read_word(kept.number() as u64, kept.fields())? {
+        Word::Yes => yes_after(alloc, rank, reader),
+        Word::NoLength => no_length_after(alloc, rank, count, reader),
+        Word::NoLevel => no_level_after(alloc, rank, count, reader),
     }
 }

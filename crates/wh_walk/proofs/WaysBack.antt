@@ -6,7 +6,7 @@ use Rattle.std.proofs.lemmas.Option.{slice_get_within, slice_get-get_or}
 use Rattle.wh_words.specs.Tuples.{TupleData}
 use Rattle.wh_words.specs.Moves.{Move}
 use Rattle.wh_words.specs.Levels.{IsFirstWalk}
-use Rattle.wh_level.specs.Trees.{Parents, LeadsBack, LevelData, IsClosed}
+use Rattle.wh_level.specs.Trees.{Parents, LeadsBack, LevelData, IsClosedLevel}
 use Rattle.wh_level.specs.Trees.LeadsBack.{root, step}
 
 -- After these moves back from a place the search is here, and the rest of the way leads to the root.
@@ -34,7 +34,7 @@ leads_one parents v (m ∷ ms) (n ∷ ns) (step {p = p} e r) (step {p = q} f s) 
     let rest : ms ≡ ns = leads_one parents p ms ns r (subst (λ k. LeadsBack parents k ns) (sym (ap (λ (x : ℕ × Move). x.0) same)) s) in
     ap (λ k. k ∷ ms) (ap (λ (x : ℕ × Move). x.1) same) ∙ ap (λ k. n ∷ k) rest
 
-pub way_start : (l : LevelData) (place : ℕ) (moves : List Move) → IsClosed l → place < length l.tuples → moves ≡ [] → IsOnTheWayBack l place place moves
+pub way_start : (l : LevelData) (place : ℕ) (moves : List Move) → IsClosedLevel l → place < length l.tuples → moves ≡ [] → IsOnTheWayBack l place place moves
 way_start l place moves closed within e =
     let t = get_or l.tuples place l.root in
     let walk = closed.parents.walks place t (slice_get-get_or l.tuples place l.root within) in
@@ -46,7 +46,7 @@ way_start l place moves closed within e =
       within = within;
     }
 
-pub way_step : (l : LevelData) (place here parent : ℕ) (moves : List Move) (m : Move) → IsClosed l → slice_get l.parents here ≡ Some (Some (parent, m)) → IsOnTheWayBack l place here moves →
+pub way_step : (l : LevelData) (place here parent : ℕ) (moves : List Move) (m : Move) → IsClosedLevel l → slice_get l.parents here ≡ Some (Some (parent, m)) → IsOnTheWayBack l place here moves →
     IsOnTheWayBack l place parent (moves ++ m ∷ [])
 way_step l place here parent moves m closed e way = stepped way.rest way.leads way.whole way.short
   where
@@ -63,7 +63,7 @@ way_step l place here parent moves m closed e way = stepped way.rest way.leads w
           within = omega (arith, leads_within l.parents parent ns leads, closed.parents.count);
         }
 
-pub way_end : (l : LevelData) (place here : ℕ) (moves : List Move) (t : TupleData) → IsClosed l → slice_get l.parents here ≡ Some None → IsOnTheWayBack l place here moves → slice_get l.tuples place ≡ Some t →
+pub way_end : (l : LevelData) (place here : ℕ) (moves : List Move) (t : TupleData) → IsClosedLevel l → slice_get l.parents here ≡ Some None → IsOnTheWayBack l place here moves → slice_get l.tuples place ≡ Some t →
     IsFirstWalk l.root t (reverse moves)
 way_end l place here moves t closed e way listed = ended way.rest way.leads way.whole
   where

@@ -2,7 +2,7 @@
 ghost use Rattle.std.specs.Prelude.{◌≡◌, ◌<◌, length, Some, slice_get, MatchOption, IfOk};
 ghost use Rattle.wh_words.specs.Levels.{InLevel, IsFirstWalk};
 ghost use Rattle.wh_words.specs.Tuples.{TupleData};
-ghost use Rattle.wh_level.specs.Trees.{IsClosed};
+ghost use Rattle.wh_level.specs.Trees.{IsClosedLevel};
 
 use std::alloc::Global;
 use wh_level::Level;
@@ -12,7 +12,7 @@ use wh_words::{OutOfMemory, Tuple};
 /// The moves of the first walk to the tuple at a place: those that lead back to the root, the last one first.
 #[tactic(auto, using(crate::proofs::WaysBack::way_start, crate::proofs::WaysBack::way_step, crate::proofs::WaysBack::way_end))]
 fn walk_to(alloc: Global, level: &Level, place: usize) -> Result<Vec<Move>, OutOfMemory>
-    requires closed { IsClosed level.now }
+    requires closed { IsClosedLevel level.now }
     requires within { place < length level.now.tuples }
     ensures { (t : TupleData) → slice_get level.now.tuples place ≡ Some t → IfOk result (λ v. IsFirstWalk level.now.root t v.items) }
 {

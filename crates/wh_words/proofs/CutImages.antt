@@ -2,6 +2,7 @@
 use Rattle.std.proofs.Common.{◌≡◌, ◌≢◌, ℕ, ◌+◌, ◌-◌, ◌*◌, ◌/◌, ◌<◌, ◌≤◌, ◌==◌, ltb, Bool, true, false, not, ◌&&◌, cond, List, [], ◌∷◌, ◌++◌, length, get_or, take, drop, refl, sym, ap, ◌∙◌, subst, inl, inr, arith, append_assoc, append-nil, length-append}
 use Rattle.std.proofs.lemmas.Bool.{cases_Bool, cases_eq, true≢false, false≢true, and_from, lt-ltb, eq-eqb, ne_eqb, eqb-true}
 use Rattle.std.proofs.lemmas.List.{take_more, take-append-drop, take-append-le, take-take}
+use Rattle.std.proofs.Math.Bool.{and-false}
 use Rattle.std.proofs.Math.Seq.{take-append-add}
 use Rattle.std.specs.List.{flat_map}
 use Rattle.std.specs.Int.{bit_at}
@@ -16,6 +17,7 @@ use Rattle.wh_words.specs.Images.{image}
 use Rattle.wh_words.specs.Action.{substitute}
 use Rattle.wh_words.specs.Moves.Kind.{cut}
 use Rattle.wh_words.proofs.FreeReduction.{inverse-inverse, inverse-other, inverse_generator, free_reduction-same, free_reduction-reduced, remains_there}
+use Rattle.wh_words.proofs.CutWords.{around}
 use Rattle.wh_words.proofs.Turning.{Ends, ends, ends_cancel-two, cyclic_core-other, cyclic_core-two, cyclic_core-length}
 use Rattle.wh_words.proofs.Turning.Ends.{none, one, two}
 use Rattle.wh_words.proofs.Rotations.{least_rotation-is}
@@ -89,19 +91,12 @@ module _ (a : ℕ) (has : ℕ → Bool) where
   mult_is : is_other a has a ≡ false
   mult_is = ap (λ (b : Bool). not b && not (a == inverse_letter a)) (eq-eqb a a refl)
 
-  and_false : (b : Bool) → (b && false) ≡ false
-  and_false true = refl
-  and_false false = refl
-
   inverse_is : is_other a has (inverse_letter a) ≡ false
-  inverse_is = ap (λ (b : Bool). not (inverse_letter a == a) && not b) (eq-eqb (inverse_letter a) (inverse_letter a) refl) ∙ and_false (not (inverse_letter a == a))
+  inverse_is = ap (λ (b : Bool). not (inverse_letter a == a) && not b) (eq-eqb (inverse_letter a) (inverse_letter a) refl) ∙ and-false (not (inverse_letter a == a))
 
 same_generator : (x a : ℕ) → x / 2 ≡ a / 2 → x ≢ a → x ≡ inverse_letter a
 unfolding inverse_letter
 same_generator x a e n = omega (arith, e, n)
-
-abbrev around : Bool → Bool → ℕ → ℕ → List ℕ
-around b c a x = cond b (inverse_letter a ∷ []) [] ++ x ∷ cond c (a ∷ []) []
 
 pub image_spread : (a set x : ℕ) → bit_at set a ≡ 1 → bit_at set (inverse_letter a) ≡ 0 → image (cut a set) x ≡ spread a (in_set set) x
 image_spread a set x holds omits =

@@ -45,7 +45,7 @@ pub substitute_length : (k : spec.Kind) (w : List ℕ) → length (substitute k 
 substitute_length k [] = omega arith
 substitute_length k (x ∷ w) = omega (arith, length-append (image k x) (substitute k w), image_length k x, substitute_length k w)
 
-inverse_below : (n x : ℕ) → x < 2 * n → inverse_letter x < 2 * n
+pub inverse_below : (n x : ℕ) → x < 2 * n → inverse_letter x < 2 * n
 unfolding inverse_letter
 inverse_below n x h = omega arith
 

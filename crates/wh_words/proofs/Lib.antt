@@ -1,3 +1,4 @@
+pub mod Elements
 pub mod FreeReduction
 pub mod Turning
 pub mod Rotations
@@ -8,6 +9,7 @@ pub mod OnePass
 pub mod PassReduced
 pub mod PassRound
 pub mod ImageLetters
+pub mod CutWords
 pub mod CutImages
 pub mod Storing
 pub mod Mapped

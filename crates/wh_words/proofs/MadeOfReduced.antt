@@ -41,11 +41,11 @@ cyclic_core_length w r = sym (ap length (sym (cyclic_word-cyclic_core w) ∙ red
 abbrev pub written_of : ℕ → List (List ℕ) → ℕ → Tuple
 written_of rank ws i = record { plain = record { rank = rank; words = map cyclic_word (take i ws) }; room = sum_by length (map cyclic_word ws); word_room = length ws }
 
-map_take_sum : (ws : List (List ℕ)) (i : ℕ) → sum_by length (map cyclic_word (take i ws)) ≤ sum_by length (map cyclic_word ws)
-map_take_sum [] zero = omega arith
-map_take_sum [] (suc i) = omega arith
-map_take_sum (w ∷ ws) zero = omega arith
-map_take_sum (w ∷ ws) (suc i) = omega (arith, map_take_sum ws i, sum_by-cons length (cyclic_word w) (map cyclic_word (take i ws)), sum_by-cons length (cyclic_word w) (map cyclic_word ws))
+pub total_few : (ws : List (List ℕ)) (i : ℕ) → sum_by length (map cyclic_word (take i ws)) ≤ sum_by length (map cyclic_word ws)
+total_few [] zero = omega arith
+total_few [] (suc i) = omega arith
+total_few (w ∷ ws) zero = omega arith
+total_few (w ∷ ws) (suc i) = omega (arith, total_few ws i, sum_by-cons length (cyclic_word w) (map cyclic_word (take i ws)), sum_by-cons length (cyclic_word w) (map cyclic_word ws))
 
 words_more : (ws : List (List ℕ)) (i : ℕ) (w : List ℕ) → i < length ws → w ≡ get_or ws i w → map cyclic_word (take (i + 1) ws) ≡ map cyclic_word (take i ws) ++ cyclic_word w ∷ []
 words_more ws i w h e = map_more cyclic_word ws i w h ∙ ap (λ v. map cyclic_word (take i ws) ++ cyclic_word v ∷ []) (sym e)
@@ -60,7 +60,7 @@ of_fits rank ws i w c made h e is same =
       ap length same,
       ap (sum_by length) (words_more ws i w h e),
       sum_by_push length (map cyclic_word (take i ws)) (cyclic_word w),
-      map_take_sum ws (i + 1),
+      total_few ws (i + 1),
     )
 
 pub of_place : (rank : ℕ) (ws : List (List ℕ)) (i : ℕ) (made : Tuple) → i < length ws → made ≡ written_of rank ws i → length made.plain.words < made.word_room
@@ -82,6 +82,3 @@ pub total_more : (ws : List (List ℕ)) (i total : ℕ) (w c : List ℕ) → i <
     total + length c ≡ sum_by length (map cyclic_word (take (i + 1) ws))
 total_more ws i total w c h e f g =
     omega (arith, f, g, ap (sum_by length) (words_more ws i w h e), sum_by_push length (map cyclic_word (take i ws)) (cyclic_word w))
-
-pub total_few : (ws : List (List ℕ)) (i : ℕ) → sum_by length (map cyclic_word (take i ws)) ≤ sum_by length (map cyclic_word ws)
-total_few ws i = map_take_sum ws i

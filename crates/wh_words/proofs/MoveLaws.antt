@@ -1,5 +1,5 @@
 -- The laws of images and of traces.
-use Rattle.std.proofs.Common.{◌≡◌, ℕ, ◌/◌, ◌==◌, Bool, true, false, cond, List, [], ◌∷◌, ◌++◌, refl, sym, ap, ◌∙◌, subst, inl, inr, arith}
+use Rattle.std.proofs.Common.{◌≡◌, ℕ, ◌/◌, ◌==◌, Bool, true, false, cond, List, [], ◌∷◌, refl, sym, ap, ◌∙◌, subst, inl, inr, arith}
 use Rattle.std.proofs.lemmas.Bool.{cases_lt}
 use Rattle.wh_words.specs.Letters.{inverse_letter}
 use Rattle.wh_words.specs.LetterSets.{in_set}
@@ -12,13 +12,10 @@ use Rattle.wh_words.specs.Traces.{IsFlat, IsStep, IsShortestCut, IsTrace}
 use Rattle.wh_words.specs.Traces.IsTrace.{done, step}
 use Rattle.wh_words.specs.Laws.{ImageOfInverse, TraceIsUnique}
 use Rattle.wh_words.proofs.FreeReduction.{inverse-inverse, inverse_generator}
+use Rattle.wh_words.proofs.CutWords.{around}
 use Rattle.wh_words.proofs.Mapped.{swap_turns, invert_turns}
 
 -- ---- images
--- What a cut writes round a letter, by whether it writes before it and behind it.
-abbrev around : Bool → Bool → ℕ → ℕ → List ℕ
-around before behind a x = cond before (inverse_letter a ∷ []) [] ++ x ∷ cond behind (a ∷ []) []
-
 around_inverse : (b c : Bool) (a x : ℕ) → around c b a (inverse_letter x) ≡ inverse_word (around b c a x)
 around_inverse true true a x = ap (λ z. inverse_letter a ∷ inverse_letter x ∷ z ∷ []) (sym (inverse-inverse a))
 around_inverse true false a x = ap (λ z. inverse_letter x ∷ z ∷ []) (sym (inverse-inverse a))

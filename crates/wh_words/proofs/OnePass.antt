@@ -8,6 +8,10 @@ use Rattle.wh_words.proofs.FreeReduction.{inverse-inverse, free_reduction-pair, 
 use Rattle.wh_words.proofs.Rotations.{cyclic_word-turn, cyclic_word-free_reduction}
 use Rattle.wh_words.specs.Passes.{kept, junction, junction_of, pass, last_or}
 
+-- Words of one free reduction have one cyclic word.
+pub same_class : (u v : List ℕ) → free_reduction u ≡ free_reduction v → cyclic_word u ≡ cyclic_word v
+same_class u v e = sym (cyclic_word-free_reduction u) ∙ ap cyclic_word e ∙ cyclic_word-free_reduction v
+
 module _ (a : ℕ) (has : ℕ → Bool) where
   -- what stands after a letter, and before it
   abbrev pub after_letter : ℕ → List ℕ
@@ -50,9 +54,6 @@ module _ (a : ℕ) (has : ℕ → Bool) where
   undone_front : (b : Bool) (w : List ℕ) → free_reduction (undo b ++ (cond b (a ∷ []) [] ++ w)) ≡ free_reduction w
   undone_front true w = rw inverse-inverse at (free_reduction-pair [] (inverse_letter a) w)
   undone_front false w = refl
-
-  same_class : (u v : List ℕ) → free_reduction u ≡ free_reduction v → cyclic_word u ≡ cyclic_word v
-  same_class u v e = sym (cyclic_word-free_reduction u) ∙ ap cyclic_word e ∙ cyclic_word-free_reduction v
 
   -- round a cyclic word, whose last letter stands before its first
   pub pass-round : (x : ℕ) (w : List ℕ) → cyclic_word (flat_map spread (x ∷ w)) ≡ cyclic_word (pass a has (last_or a has x w) (x ∷ w))

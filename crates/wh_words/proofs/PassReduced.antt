@@ -1,6 +1,7 @@
 -- The pass over a reduced word is reduced.
 use Rattle.std.proofs.Common.{◌≡◌, ◌≢◌, ℕ, ◌==◌, Bool, true, false, not, ◌&&◌, cond, List, [], ◌∷◌, ◌++◌, refl, sym, ap, ◌∙◌, subst, inl, inr, ◌⊎◌}
 use Rattle.std.proofs.lemmas.Bool.{cases_Bool, cases_eq, eq-eqb, ne_eqb, true≢false}
+use Rattle.std.proofs.Math.Bool.{and-false}
 use Rattle.wh_words.specs.Letters.{inverse_letter}
 use Rattle.wh_words.specs.Words.{IsReduced, StartsOtherThan}
 use Rattle.wh_words.proofs.FreeReduction.{inverse-inverse, inverse-other, turned}
@@ -24,12 +25,8 @@ module _ (a : ℕ) (has : ℕ → Bool) (holds : has a ≡ true) (omits : has (i
   core_a : (y : ℕ) → y ≡ a → kept a has y ≡ []
   core_a y e = ap (λ b. cond (not b && not (y == inverse_letter a)) (y ∷ []) []) (eq-eqb y a e)
 
-  and_false : (b : Bool) → (b && false) ≡ false
-  and_false true = refl
-  and_false false = refl
-
   core_inverse : (y : ℕ) → y ≡ inverse_letter a → kept a has y ≡ []
-  core_inverse y e = ap (λ b. cond (not (y == a) && not b) (y ∷ []) []) (eq-eqb y (inverse_letter a) e) ∙ ap (λ b. cond b (y ∷ []) []) (and_false (not (y == a)))
+  core_inverse y e = ap (λ b. cond (not (y == a) && not b) (y ∷ []) []) (eq-eqb y (inverse_letter a) e) ∙ ap (λ b. cond b (y ∷ []) []) (and-false (not (y == a)))
 
   core_other : (y : ℕ) → Other y → kept a has y ≡ y ∷ []
   core_other y o = ap (λ b. cond (not b && not (y == inverse_letter a)) (y ∷ []) []) (ne_eqb y a o.not_a) ∙ ap (λ b. cond (not b) (y ∷ []) []) (ne_eqb y (inverse_letter a) o.not_inverse)

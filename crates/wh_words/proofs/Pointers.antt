@@ -1,12 +1,12 @@
 -- The search for the least rotation by two pointers.
 use Rattle.std.proofs.Common.{◌≡◌, ◌≢◌, ℕ, zero, suc, ◌+◌, ◌-◌, ◌%◌, ◌<◌, ◌≤◌, true, false, List, [], ◌∷◌, length, get_or, take, drop, refl, sym, ap, ◌∙◌, subst, inl, inr, ◌⊎◌, arith, length-drop, append-nil}
 use Rattle.std.proofs.lemmas.Bool.{cases_eq, cases_lt, true≢false}
-use Rattle.std.proofs.lemmas.Bool.Decides.{nat_tests}
 use Rattle.std.proofs.lemmas.List.{get_or_append_left, get_or-append_right, get_or-drop, get_or-take, ext_get_or}
 use Rattle.std.proofs.Math.Nat.{add-mod_right, mod-add-mod, add-mod-mod, mod-eq_of_lt, mod-lt}
 use Rattle.std.proofs.lemmas.Cmp.{nat_list_cmp_total}
 use Rattle.std.specs.declared.cmp.Ordering.TheVariants.{Less, Equal}
-use Rattle.std.specs.Ordering.{is_gt, ordering_reverse, ordering_then, nat_cmp}
+use Rattle.std.specs.Ordering.{is_gt, ordering_reverse, ordering_then}
+use Rattle.std.specs.Cmp.{nat_cmp_is}
 use Rattle.wh_words.specs.CyclicWords.{rotate, least_below, least_rotation}
 use Rattle.wh_words.specs.Words.{word_cmp}
 use Rattle.wh_words.specs.Rounds.{round}
@@ -133,16 +133,10 @@ rotate_reads w t m h l = elim (cases_lt (t + m) (length w)) [
 differ_there : (u v : List ℕ) (k : ℕ) → k < length u → k < length v → ((m : ℕ) → m < k → get_or u m 0 ≡ get_or v m 0) → get_or u k 0 < get_or v k 0 → word_cmp u v ≡ Less
 differ_there [] v k h l s d = absurd (omega arith)
 differ_there (x ∷ u) [] k h l s d = absurd (omega arith)
-differ_there (x ∷ u) (y ∷ v) zero h l s d = ap (λ o. ordering_then o (word_cmp u v)) (less_cmp x y d)
-  where
-    less_cmp : (x y : ℕ) → x < y → nat_cmp x y ≡ Less
-    less_cmp x y h = grind (arith, nat_tests)
+differ_there (x ∷ u) (y ∷ v) zero h l s d = ap (λ o. ordering_then o (word_cmp u v)) (sym (nat_cmp_is x y Less d))
 differ_there (x ∷ u) (y ∷ v) (suc k) h l s d =
-    ap (λ o. ordering_then o (word_cmp u v)) (same_cmp x y (s 0 (omega arith)))
+    ap (λ o. ordering_then o (word_cmp u v)) (sym (nat_cmp_is x y Equal (s 0 (omega arith))))
     ∙ differ_there u v k (omega arith) (omega arith) (λ m b. s (suc m) (omega arith)) d
-  where
-    same_cmp : (x y : ℕ) → x ≡ y → nat_cmp x y ≡ Equal
-    same_cmp x y h = grind (arith, nat_tests)
 
 -- two starts that agree so far agree for ever
 before_within : (w : List ℕ) (s t : ℕ) (b : Before (round w) s t) → 0 < length w → b.at < length w

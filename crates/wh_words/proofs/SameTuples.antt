@@ -1,13 +1,22 @@
--- The test whether two tuples are the same.
-use Rattle.std.proofs.Common.{◌≡◌, ◌≢◌, Bool, sym, ap, ◌∙◌, subst}
+-- The order of the data of tuples, and the test whether two tuples are the same.
+use Rattle.std.proofs.Common.{◌≡◌, ◌≢◌, Bool, true, sym, ap, ◌∙◌, subst}
 use Rattle.std.proofs.lemmas.Bool.{true≢false}
-use Rattle.std.proofs.lemmas.Cmp.{tied_itself}
+use Rattle.std.proofs.lemmas.Cmp.{on_total, tied_itself}
+use Rattle.std.proofs.lemmas.Map.Views.{tells_apart}
+use Rattle.std.specs.Cmp.{IsTotalOrder}
 use Rattle.std.specs.Bool.{MatchBool}
-use Rattle.std.specs.Ordering.{is_lt, is_gt, is_eq}
+use Rattle.std.specs.Ordering.{is_lt, is_gt, is_eq, eq_by_cmp}
 use Rattle.std.specs.declared.cmp.Ordering.{Ordering}
 use Rattle.std.specs.declared.cmp.Ordering.TheVariants.{Less, Equal, Greater}
 use Rattle.wh_words.specs.Tuples.{TupleData, own_room, tuple_cmp, tuple_order_total}
 use Rattle.wh_words.specs.TupleTies.{same_from_tied}
+
+pub tuple_cmp_total : IsTotalOrder tuple_cmp
+tuple_cmp_total = on_total own_room tuple_order_total
+
+-- Data that the order ties is the same.
+pub tied : (s t : TupleData) → eq_by_cmp tuple_cmp s t ≡ true → s ≡ t
+tied = tells_apart same_from_tied
 
 pub tied_with_itself : (t : TupleData) → tuple_cmp t t ≡ Equal
 tied_with_itself t = tied_itself tuple_order_total (own_room t)

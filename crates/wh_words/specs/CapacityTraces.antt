@@ -12,12 +12,12 @@ abbrev pub IsSubset : ℕ → ℕ → Type 0
 IsSubset set other = (x : ℕ) → bit_at set x ≡ 1 → bit_at other x ≡ 1
 
 -- No cut with multiplier a has a capacity below the degree of a.
-abbrev pub IsTightAt : TupleData → ℕ → Type 0
-IsTightAt t a = (set : ℕ) → IsCut t.rank a set → deg a t ≤ cap (in_set set) t
+abbrev pub IsFlatByCapacitiesAt : TupleData → ℕ → Type 0
+IsFlatByCapacitiesAt t a = (set : ℕ) → IsCut t.rank a set → deg a t ≤ cap (in_set set) t
 
--- A tuple is tight where no cut of a generator, counted from 0, has a capacity below the generator's degree.
-abbrev pub IsTight : TupleData → Type 0
-IsTight t = (generator : ℕ) → IsTightAt t (2 * generator)
+-- A tuple is flat by capacities where no cut of a generator, counted from 0, has a capacity below the generator's degree.
+abbrev pub IsFlatByCapacities : TupleData → Type 0
+IsFlatByCapacities t = (generator : ℕ) → IsFlatByCapacitiesAt t (2 * generator)
 
 -- The least cut of multiplier a: its set has the least capacity, and lies in every set that has it.
 pub record IsLeastCapacityCut (t : TupleData) (a set : ℕ) : Type 0 where
@@ -32,9 +32,9 @@ pub record IsCapacityStep (t : TupleData) (m : Move) : Type 0 where
   pub is : m ≡ cut_move t.rank (2 * generator) set
   pub cut : IsLeastCapacityCut t (2 * generator) set
   pub below : cap (in_set set) t < deg (2 * generator) t
-  pub earlier : (g : ℕ) → g < generator → IsTightAt t (2 * g)
+  pub earlier : (g : ℕ) → g < generator → IsFlatByCapacitiesAt t (2 * g)
 
--- The trace of a tuple by capacities: step after step until the tuple is tight.
+-- The trace of a tuple by capacities: step after step until the tuple is flat by capacities.
 pub data IsCapacityTrace : TupleData → List Move → TupleData → Type 0 where
-  done : {t : TupleData} → IsTight t → IsCapacityTrace t [] t
+  done : {t : TupleData} → IsFlatByCapacities t → IsCapacityTrace t [] t
   step : {t : TupleData} {m : Move} {ms : List Move} {end : TupleData} → IsCapacityStep t m → IsCapacityTrace (act t m) ms end → IsCapacityTrace t (m ∷ ms) end

@@ -1,5 +1,5 @@
 -- What a move takes letters to, after Lyndon and Schupp, I.4.
-use Rattle.std.specs.Prelude.{ℕ, suc, zero, ◌+◌, ◌-◌, ◌*◌, ◌/◌, ◌==◌, cond, List, [], ◌∷◌, ◌++◌, map, reverse}
+use Rattle.std.specs.Prelude.{◌≡◌, ℕ, suc, zero, ◌+◌, ◌-◌, ◌*◌, ◌/◌, ◌==◌, ◌<◌, cond, List, [], ◌∷◌, ◌++◌, length, map, reverse, slice_index_or}
 use Rattle.wh_words.specs.Letters.{inverse_letter}
 use Rattle.wh_words.specs.LetterSets.{in_set}
 use Rattle.wh_words.specs.Moves.{Move, Kind}
@@ -29,6 +29,10 @@ images_below (suc g) k = images_below g k ++ image k (2 * g) ∷ []
 -- The images of all generators, in order.
 abbrev pub images : Move → List (List ℕ)
 images m = images_below m.rank m.kind
+
+-- These are the images of the identity: the image of each generator is its letter alone.
+abbrev pub AreIdentity : List (List ℕ) → Type 0
+AreIdentity ws = (g : ℕ) → g < length ws → slice_index_or ws g [] ≡ 2 * g ∷ []
 
 -- The inverse of a word: the inverses of its letters in reverse order.
 abbrev pub inverse_word : List ℕ → List ℕ

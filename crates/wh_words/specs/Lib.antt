@@ -1,4 +1,5 @@
 -- The theory, in the order of a textbook.
+pub mod Limits
 pub mod Letters
 pub mod LetterSets
 pub mod Words

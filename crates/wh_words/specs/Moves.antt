@@ -4,6 +4,7 @@ use Rattle.std.specs.Int.{bit_at}
 use Rattle.std.specs.Ordering.{nat_cmp, ordering_then}
 use Rattle.std.specs.declared.cmp.Ordering.{Ordering}
 use Rattle.std.specs.declared.cmp.Ordering.TheVariants.{Less, Greater}
+use Rattle.wh_words.specs.Limits.{most_rank}
 use Rattle.wh_words.specs.Letters.{inverse_letter}
 
 -- The swap of generators k and k + 1, the inversion of generator k, and the cut of a multiplier and a set of letters. Generators are numbered from 1.
@@ -32,7 +33,7 @@ IsKind n (cut a set) = IsCut n a set
 
 -- The move is one of its rank, which is at most 26.
 pub record IsMove (m : Move) : Type 0 where
-  pub rank : m.rank ≤ 26
+  pub rank : m.rank ≤ most_rank
   pub kind : IsKind m.rank m.kind
 
 -- The cut of rank n with this multiplier and this set.

@@ -7,6 +7,7 @@ use Rattle.std.specs.Ordering.{nat_cmp, ordering_then}
 use Rattle.std.specs.Cmp.{IsTotalOrder, on_total, then_total, nat_cmp_total}
 use Rattle.std.specs.Cmp.Lexicographic.{slice_cmp, nat_list_cmp_total, lists_total}
 use Rattle.std.specs.declared.cmp.Ordering.{Ordering}
+use Rattle.wh_words.specs.Limits.{most_words, most_letters}
 use Rattle.wh_words.specs.Words.{IsOfRank, word_cmp}
 use Rattle.wh_words.specs.CyclicWords.{cyclic_word}
 
@@ -29,8 +30,8 @@ tuple_length t = sum_by length t.words
 pub record IsTuple (t : TupleData) : Type 0 where
   pub cyclic : All (λ w. cyclic_word w ≡ w) t.words
   pub of_rank : All (IsOfRank t.rank) t.words
-  pub few : length t.words ≤ 64
-  pub short : tuple_length t ≤ 4096
+  pub few : length t.words ≤ most_words
+  pub short : tuple_length t ≤ most_letters
 
 -- The order of tuples: by rank, then word by word; a proper prefix is smaller.
 abbrev pub tuple_cmp : TupleData → TupleData → Ordering
@@ -48,8 +49,8 @@ pub record IsRoomed (t : Tuple) : Type 0 where
   pub tuple : IsTuple t.plain
   pub letters : tuple_length t.plain ≤ t.room
   pub words : length t.plain.words ≤ t.word_room
-  pub letters_within : t.room ≤ 4096
-  pub words_within : t.word_room ≤ 64
+  pub letters_within : t.room ≤ most_letters
+  pub words_within : t.word_room ≤ most_words
 
 -- A tuple with room for itself alone.
 abbrev pub own_room : TupleData → Tuple

@@ -1,8 +1,10 @@
 //! Letters: generators and their inverses.
 ghost use Rattle.std.specs.Prelude.{if◌then◌else◌, ◌≡◌, ◌+◌, ◌-◌, ◌*◌, ◌/◌, ◌%◌, ◌<◌, ◌↔◌, ◌⊎◌, IsTrue, IsNone, IfSome};
+ghost use Rattle.wh_words.specs.Limits.{most_rank};
 ghost use Rattle.wh_words.specs.Letters.{inverse_letter};
 ghost use Rattle.wh_words.specs.Images.{swap_letter, invert_letter};
 
+use crate::limits::MOST_RANK;
 use std::marker::Model;
 
 /// A letter of a free group of rank at most 26. Contracts see its index: twice the generator less 2, plus 1 for an
@@ -27,10 +29,10 @@ impl Model for Letter {
 impl Letter {
     /// A generator, numbered from 1, or its inverse. None exactly where the generator is 0 or above 26.
     pub fn new(generator: u8, inverse: bool) -> Option<Letter>
-        ensures none { IsNone result ↔ ((generator ≡ 0) ⊎ (26 < generator)) }
+        ensures none { IsNone result ↔ ((generator ≡ 0) ⊎ (most_rank < generator)) }
         ensures some { IfSome result (λ l. l ≡ 2 * generator - 2 + (if inverse then 1 else 0)) }
     {
-        if generator == 0 || generator > 26 {
+        if generator == 0 || generator > MOST_RANK {
             None
         } else {
             Some(Letter {
@@ -89,7 +91,7 @@ impl Letter {
     /// The letter that the swap of generators `k` and `k + 1` takes this one to.
     pub fn swapped(self, k: u8) -> Letter
         requires least { 0 < k }
-        requires below { k < 26 }
+        requires below { k < most_rank }
         ensures { result ≡ swap_letter k self }
     {
         if self.index / 2 + 1 == k {

@@ -7,6 +7,7 @@ mod inline;
 pub mod laws;
 mod letter;
 mod letter_set;
+mod limits;
 mod list;
 mod pass;
 mod rank;
@@ -21,6 +22,9 @@ pub use cyclic_word::CyclicWord;
 pub use error::OutOfMemory;
 pub use letter::Letter;
 pub use letter_set::LetterSet;
+pub use limits::{
+    MOST_LETTERS, MOST_LEVEL_LENGTH, MOST_LEVEL_RANK, MOST_LEVEL_TUPLES, MOST_RANK, MOST_WORDS,
+};
 pub use list::List;
 pub use pass::cut_image_length;
 pub use rank::Rank;

@@ -3,6 +3,7 @@ ghost use Rattle.std.specs.Prelude.{if◌then◌else◌, ◌≡◌, ◌≢◌, �
 ghost use Rattle.std.specs.Int.{bit_at};
 ghost use Rattle.std.specs.Option.{option_to_list};
 ghost use Rattle.smallvec.specs.SmallVec.{HasRoomFor};
+ghost use Rattle.wh_words.specs.Limits.{most_letters};
 ghost use Rattle.wh_words.specs.Letters.{inverse_letter};
 ghost use Rattle.wh_words.specs.LetterSets.{in_set};
 ghost use Rattle.wh_words.specs.CyclicWords.{cyclic_word};
@@ -131,7 +132,7 @@ fn kept_length(x: Letter, mult: Letter, set: LetterSet) -> u32
 
 /// How long the pass of a cut round a cyclic word is.
 fn pass_length(word: &[Letter], mult: Letter, set: LetterSet) -> u32
-    requires { length word.now ≤ 4096 }
+    requires { length word.now ≤ most_letters }
     ensures { result ≡ length (round_pass mult (in_set set) word.now) }
 {
     let mut total = 0;
@@ -150,7 +151,7 @@ fn pass_length(word: &[Letter], mult: Letter, set: LetterSet) -> u32
 #[tactic(auto, using(crate::proofs::CutImages::cut_image_length))]
 pub fn cut_image_length(word: &[Letter], mult: Letter, set: LetterSet) -> u32
     requires own { cyclic_word word.now ≡ word.now }
-    requires short { length word.now ≤ 4096 }
+    requires short { length word.now ≤ most_letters }
     requires holds { bit_at set mult ≡ 1 }
     requires omits { bit_at set (inverse_letter mult) ≡ 0 }
     ensures { result ≡ length (cyclic_word (substitute (cut mult set) word.now)) }

@@ -1,6 +1,7 @@
 //! Writing words into the runs of a tuple, within the room that is there. Nothing here takes memory.
 ghost use Rattle.std.specs.Prelude.{◌≡◌, map, ◌<◌, ◌≤◌, [], ◌∷◌, ◌++◌, length, take, drop};
 ghost use Rattle.smallvec.specs.SmallVec.{HasRoomFor};
+ghost use Rattle.wh_words.specs.Limits.{most_rank, most_letters};
 ghost use Rattle.wh_words.specs.CyclicWords.{least_rotation};
 ghost use Rattle.wh_words.specs.Images.{swap_letter, invert_letter};
 
@@ -37,7 +38,7 @@ pub(crate) fn end_word(
     start: usize,
 )
     requires within { start ≤ length letters.old.items }
-    requires short { length letters.old.items ≤ 4096 }
+    requires short { length letters.old.items ≤ most_letters }
     requires room { HasRoomFor ends.old 1 }
     ensures items { letters.new.items ≡ take start letters.old.items ++ least_rotation (drop start letters.old.items) }
     ensures ends { ends.new.items ≡ ends.old.items ++ length letters.old.items ∷ [] }
@@ -62,7 +63,7 @@ pub(crate) fn push_letters(out: &mut SmallVec<Letter, INLINE>, word: &[Letter])
 /// Writes a word with generators `k` and `k + 1` exchanged.
 pub(crate) fn push_swapped(out: &mut SmallVec<Letter, INLINE>, word: &[Letter], k: u8)
     requires least { 0 < k }
-    requires below { k < 26 }
+    requires below { k < most_rank }
     requires room { HasRoomFor out.old (length word.now) }
     ensures items { out.new.items ≡ out.old.items ++ map (swap_letter k) word.now }
     ensures capacity { out.new.capacity ≡ out.old.capacity }

@@ -2,6 +2,7 @@
 ghost use Rattle.std.specs.Prelude.{◌≡◌, ◌≢◌, ◌+◌, ◌<◌, ◌≤◌, [], ◌∷◌, ◌++◌, length, map, slice_index_or, IfOk, IsOk};
 ghost use Rattle.std.specs.List.{All, sum_by, concat};
 ghost use Rattle.std.specs.Bool.{MatchBool};
+ghost use Rattle.wh_words.specs.Limits.{most_rank, most_words, most_letters};
 ghost use Rattle.wh_words.specs.Words.{IsOfRank};
 ghost use Rattle.wh_words.specs.CyclicWords.{cyclic_word, IsCyclicallyReduced};
 ghost use Rattle.wh_words.specs.Tuples.{tuple_cmp, tuple_length, IsRoomed, own_room, without_words, with_word, HasLetterRoom, HasWordRoom};
@@ -72,7 +73,7 @@ fn word_in<'a>(letters: &'a [Letter], ends: &[u16], place: usize) -> &'a [Letter
 
 /// The letters of all words.
 fn total_length(words: &[CyclicWord]) -> usize
-    requires { sum_by length words.now ≤ 4096 }
+    requires { sum_by length words.now ≤ most_letters }
     ensures { result ≡ sum_by length words.now }
 {
     let mut total = 0;
@@ -84,7 +85,7 @@ fn total_length(words: &[CyclicWord]) -> usize
 
 /// The letters of the cyclic words of all words.
 fn total_core(words: &[Word]) -> usize
-    requires { sum_by length (map cyclic_word words.now) ≤ 4096 }
+    requires { sum_by length (map cyclic_word words.now) ≤ most_letters }
     ensures { result ≡ sum_by length (map cyclic_word words.now) }
 {
     let mut total = 0;
@@ -100,8 +101,8 @@ impl Tuple {
     /// 16 letters.
     pub fn of(alloc: Global, rank: Rank, words: &[Word]) -> Result<Tuple, OutOfMemory>
         requires of_rank { All (IsOfRank rank) words.now }
-        requires few { length words.now ≤ 64 }
-        requires short { sum_by length (map cyclic_word words.now) ≤ 4096 }
+        requires few { length words.now ≤ most_words }
+        requires short { sum_by length (map cyclic_word words.now) ≤ most_letters }
         ensures made { IfOk result (λ t. t ≡ own_room (record { rank = rank; words = map cyclic_word words.now })) }
         ensures succeeds { length words.now ≤ 4 → sum_by length (map cyclic_word words.now) ≤ 16 → IsOk result }
     {
@@ -117,8 +118,8 @@ impl Tuple {
     #[tactic(auto, using(crate::proofs::MadeOfCyclic::made_start, crate::proofs::MadeOfCyclic::made_own))]
     pub fn of_cyclic(alloc: Global, rank: Rank, words: &[CyclicWord]) -> Result<Tuple, OutOfMemory>
         requires of_rank { All (IsOfRank rank) words.now }
-        requires few { length words.now ≤ 64 }
-        requires short { sum_by length words.now ≤ 4096 }
+        requires few { length words.now ≤ most_words }
+        requires short { sum_by length words.now ≤ most_letters }
         ensures made { IfOk result (λ t. t ≡ own_room (record { rank = rank; words = words.now })) }
         ensures succeeds { length words.now ≤ 4 → sum_by length words.now ≤ 16 → IsOk result }
     {
@@ -159,8 +160,8 @@ impl Tuple {
         words: usize,
         letters: usize,
     ) -> Result<Tuple, OutOfMemory>
-        requires few { words ≤ 64 }
-        requires short { letters ≤ 4096 }
+        requires few { words ≤ most_words }
+        requires short { letters ≤ most_letters }
         ensures made { IfOk result (λ t. t ≡ record { plain = record { rank = rank; words = [] }; room = letters; word_room = words }) }
         ensures succeeds { words ≤ 4 → letters ≤ 16 → IsOk result }
     {
@@ -251,6 +252,15 @@ impl Tuple {
         })
     }
 
+    /// Keeps room for the tuple itself alone. What memory it has stays with it.
+    #[tactic(auto, using(crate::proofs::StoredWords::split_at_length, crate::proofs::StoredWords::split_at_total))]
+    pub fn close_rooms(&mut self)
+        ensures { self.new ≡ own_room self.old.plain }
+    {
+        self.room = self.letters.len();
+        self.word_room = self.ends.len();
+    }
+
     /// Takes all words out, makes the tuple one of a rank, and keeps its rooms.
     #[tactic(auto, using(crate::proofs::Storing::empty_tuple))]
     pub fn clear(&mut self, rank: Rank)
@@ -282,7 +292,7 @@ impl Tuple {
         requires own { cyclic_word word.now ≡ word.now }
         requires of_rank { IsOfRank self.old.plain.rank word.now }
         requires is_swap { IsKind self.old.plain.rank (swap k) }
-        requires within { self.old.plain.rank ≤ 26 }
+        requires within { self.old.plain.rank ≤ most_rank }
         requires letters { HasLetterRoom self.old (length (cyclic_word (substitute (swap k) word.now))) }
         requires place { HasWordRoom self.old }
         ensures { self.new ≡ with_word self.old (cyclic_word (substitute (swap k) word.now)) }

@@ -1,5 +1,5 @@
 -- Expanding one known tuple after another, for `explore_one`.
-use Rattle.std.proofs.Common.{◌≡◌, ◌⊎◌, ℕ, zero, suc, ◌+◌, ◌<◌, ◌≤◌, List, [], ◌∷◌, ◌++◌, length, map, take, refl, sym, ap, ◌∙◌, subst, arith, inl, inr, ⊎_elim, Some}
+use Rattle.std.proofs.Common.{◌≡◌, ◌⊎◌, ℕ, ◌+◌, ◌<◌, ◌≤◌, List, [], ◌∷◌, ◌++◌, length, map, take, refl, sym, ap, ◌∙◌, subst, arith, inl, inr, ⊎_elim, Some}
 use Rattle.std.specs.Prelude.{Contains, slice_get, ◌↔◌}
 use Rattle.std.specs.List.{All, IsDistinct}
 use Rattle.std.specs.Ordering.{eq_by_cmp}
@@ -15,17 +15,14 @@ use Rattle.wh_expand.specs.Rows.{IsRow, AreLevelMoves, row_tuple}
 use Rattle.wh_expand.specs.declared.row.Row.{Row}
 use Rattle.wh_level.specs.Sealings.{IsImage}
 use Rattle.wh_level.proofs.Walks.{in_level_pushed, reached_rank, reached_length, reached_words}
-use Rattle.wh_workers.specs.Known.{Meets}
+use Rattle.wh_words.proofs.Elements.{contains_one}
+use Rattle.wh_sets.specs.TupleSets.{IsAdded}
 use Rattle.wh_workers.specs.Explorations.{HasRoomFor, HasMetImages, IsWhole}
 
 -- ---- the images of a tuple
-one_is : {A : Type 0} (x y : A) → Contains (x ∷ []) y → x ≡ y
-one_is x y (zero, l, e) = e
-one_is x y (suc k, l, e) = absurd (omega (arith, l))
-
 image_within : (root t u : TupleData) → InLevel root t → IsImage (t ∷ []) u → InLevel root u
 image_within root t u reached image =
-    let from : t ≡ image.from = one_is t image.from image.listed in
+    let from : t ≡ image.from = contains_one t image.from image.listed in
     let moves : IsLevelMove t image.via = subst (λ v. IsLevelMove v image.via) (sym from) image.moves in
     subst (InLevel root) (ap (λ v. act v image.via) from ∙ sym image.is) (in_level_pushed reached moves)
 
@@ -39,7 +36,7 @@ pub record IsExploring (root : TupleData) (limit : ℕ) (known : List TupleData)
   pub few : length rows ≤ limit
   pub images : (limit < length known) ⊎ ((t : TupleData) → IsImage (map row_tuple rows) t → Contains known t)
 
-pub exploring_start : (root : TupleData) (limit : ℕ) (old known : List TupleData) (rows : List Row) → length old ≡ 0 → Meets old root known → rows ≡ [] → IsExploring root limit known rows
+pub exploring_start : (root : TupleData) (limit : ℕ) (old known : List TupleData) (rows : List Row) → length old ≡ 0 → IsAdded old root known → rows ≡ [] → IsExploring root limit known rows
 exploring_start root limit [] known rows e (inl listed) f = absurd (omega (arith, listed.0.1))
 exploring_start root limit [] known rows e (inr added) f = subst (λ ks. IsExploring root limit ks rows) (sym added.1) (subst (IsExploring root limit (root ∷ [])) (sym f) start)
   where
@@ -53,7 +50,7 @@ exploring_start root limit [] known rows e (inr added) f = subst (λ ks. IsExplo
           few = omega arith;
           images = inr (λ t image. absurd (omega (arith, image.listed.1)));
         }
-exploring_start root limit (t ∷ old) known rows e meets f = absurd (omega arith)
+exploring_start root limit (t ∷ old) known rows e added f = absurd (omega arith)
 
 -- The tuple that is expanded next is of the level.
 pub next_known : (root : TupleData) (limit : ℕ) (known : List TupleData) (rows : List Row) (t : TupleData) → IsExploring root limit known rows → slice_get known (length rows) ≡ Some t → InLevel root t
@@ -92,7 +89,7 @@ exploring_more root limit known new rows row t h few e same moves met =
     more_images all u image =
         ⊎_elim
         (λ old. subst (λ us. Contains us u) (sym met.grown) (Contains-append_left known met.more u (known_image u old)))
-        (λ own. let from : row_tuple row ≡ own.from = one_is (row_tuple row) own.from own.listed in
+        (λ own. let from : row_tuple row ≡ own.from = contains_one (row_tuple row) own.from own.listed in
         subst (Contains new) (ap (λ v. act v own.via) from ∙ sym own.is) (all own.via (subst (λ v. IsLevelMove v own.via) (sym from) own.moves)))
         (image_cases rows row u image)
 

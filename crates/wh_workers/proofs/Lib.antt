@@ -1,4 +1,3 @@
-pub mod KnownLists
 pub mod Meetings
 pub mod Wholes
 pub mod Exploring

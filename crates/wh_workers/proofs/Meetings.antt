@@ -5,7 +5,7 @@ use Rattle.std.proofs.lemmas.List.{get_or_default}
 use Rattle.std.specs.Prelude.{Contains}
 use Rattle.std.specs.List.{All}
 use Rattle.std.proofs.lemmas.List.{append-nil, append_assoc}
-use Rattle.std.proofs.lemmas.List.Elements.{All-nil, All-push, Contains-push, Contains-append_left}
+use Rattle.std.proofs.lemmas.List.Elements.{All-nil, All-push}
 use Rattle.wh_words.specs.Tuples.{TupleData, Tuple, tuple_length}
 use Rattle.wh_words.specs.Moves.{Move}
 use Rattle.wh_words.specs.Action.{act}
@@ -14,7 +14,8 @@ use Rattle.wh_moves.specs.Acts.{Fits}
 use Rattle.wh_expand.specs.Rows.{IsRow, row_tuple}
 use Rattle.wh_expand.specs.declared.row.Row.{Row}
 use Rattle.wh_level.specs.Sealings.{IsImage}
-use Rattle.wh_workers.specs.Known.{Meets}
+use Rattle.wh_sets.specs.TupleSets.{IsAdded}
+use Rattle.wh_sets.proofs.Additions.{added_keeps, added_is_there}
 use Rattle.wh_workers.specs.Explorations.{HasRoomFor, HasMetImages}
 
 pub row_move : (r : Row) (i : ℕ) (m : Move) → IsRow r → i < length r.moves → m ≡ get_or r.moves i m → IsLevelMove (row_tuple r) m
@@ -38,28 +39,19 @@ pub meeting_start : (r : Row) (old : List TupleData) → IsMeeting r old 0 old
 meeting_start r old =
     record { more = []; grown = sym (append-nil old); images = All-nil (IsImage (row_tuple r ∷ [])); met = λ k m l e. absurd (omega arith) }
 
--- What is known stays known as a tuple is met, and the tuple is known then.
-meets_keeps : (old new : List TupleData) (t u : TupleData) → Meets old t new → Contains old u → Contains new u
-meets_keeps old new t u (inl known) c = subst (λ ts. Contains ts u) (sym known.1) c
-meets_keeps old new t u (inr added) c = subst (λ ts. Contains ts u) (sym added.1) (Contains-append_left old (t ∷ []) u c)
-
-meets_there : (old new : List TupleData) (t : TupleData) → Meets old t new → Contains new t
-meets_there old new t (inl known) = subst (λ ts. Contains ts t) (sym known.1) known.0
-meets_there old new t (inr added) = subst (λ ts. Contains ts t) (sym added.1) (Contains-push old t)
-
-met_more : (r : Row) (now new : List TupleData) (i : ℕ) (m : Move) → i < length r.moves → m ≡ get_or r.moves i m → Meets now (act (row_tuple r) m) new →
+met_more : (r : Row) (now new : List TupleData) (i : ℕ) (m : Move) → i < length r.moves → m ≡ get_or r.moves i m → IsAdded now (act (row_tuple r) m) new →
     ((k : ℕ) (n : Move) → k < i → n ≡ get_or r.moves k n → Contains now (act (row_tuple r) n)) →
     (k : ℕ) (n : Move) → k < i + 1 → n ≡ get_or r.moves k n → Contains new (act (row_tuple r) n)
-met_more r now new i m l e meets met k n below f =
+met_more r now new i m l e added met k n below f =
     ⊎_elim
-    (λ here. subst (λ o. Contains new (act (row_tuple r) o)) (same here) (meets_there now new (act (row_tuple r) m) meets))
-    (λ order. ⊎_elim (λ less. meets_keeps now new (act (row_tuple r) m) (act (row_tuple r) n) meets (met k n less f)) (λ above. absurd (omega arith)) order)
+    (λ here. subst (λ o. Contains new (act (row_tuple r) o)) (same here) (added_is_there now new (act (row_tuple r) m) added))
+    (λ order. ⊎_elim (λ less. added_keeps now new (act (row_tuple r) m) (act (row_tuple r) n) added (met k n less f)) (λ above. absurd (omega arith)) order)
     (cases_order k i)
   where
     same : k ≡ i → m ≡ n
     same here = e ∙ get_or_default r.moves i m n l ∙ ap (λ j. get_or r.moves j n) (sym here) ∙ sym f
 
-pub meeting_more : (r : Row) (old now new : List TupleData) (i : ℕ) (m : Move) → IsRow r → i < length r.moves → m ≡ get_or r.moves i m → IsMeeting r old i now → Meets now (act (row_tuple r) m) new → IsMeeting r old (i + 1) new
+pub meeting_more : (r : Row) (old now new : List TupleData) (i : ℕ) (m : Move) → IsRow r → i < length r.moves → m ≡ get_or r.moves i m → IsMeeting r old i now → IsAdded now (act (row_tuple r) m) new → IsMeeting r old (i + 1) new
 meeting_more r old now new i m is l e h (inl known) =
     record { more = h.more; grown = known.1 ∙ h.grown; images = h.images; met = met_more r now new i m l e (inl known) h.met }
 meeting_more r old now new i m is l e h (inr added) =
@@ -72,10 +64,10 @@ meeting_more r old now new i m is l e h (inr added) =
     }
 
 -- More tuples than the limit are known after the next image.
-pub meeting_past : (r : Row) (old now new : List TupleData) (i limit : ℕ) (m : Move) → IsRow r → i < length r.moves → m ≡ get_or r.moves i m → IsMeeting r old i now → Meets now (act (row_tuple r) m) new → limit < length new →
+pub meeting_past : (r : Row) (old now new : List TupleData) (i limit : ℕ) (m : Move) → IsRow r → i < length r.moves → m ≡ get_or r.moves i m → IsMeeting r old i now → IsAdded now (act (row_tuple r) m) new → limit < length new →
     HasMetImages (row_tuple r) limit old new
-meeting_past r old now new i limit m is l e h meets past =
-    let after = meeting_more r old now new i m is l e h meets in record { more = after.more; grown = after.grown; images = after.images; all = inl past }
+meeting_past r old now new i limit m is l e h added past =
+    let after = meeting_more r old now new i m is l e h added in record { more = after.more; grown = after.grown; images = after.images; all = inl past }
 
 -- All images.
 pub meeting_end : (r : Row) (old now : List TupleData) (limit : ℕ) → IsRow r → IsMeeting r old (length r.moves) now → HasMetImages (row_tuple r) limit old now

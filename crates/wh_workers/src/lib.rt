@@ -2,7 +2,6 @@
 #![tactic(auto)]
 
 mod explored;
-mod known;
 mod one_thread;
 
 pub use explored::Explored;

@@ -1,15 +1,16 @@
 -- What is told of a problem is told valid when it is checked: for the law on answers.
-use Rattle.std.proofs.Common.{◌≡◌, ◌⊎◌, ◌≤◌, ℕ, List, [], ◌∷◌, sym, ap, ◌∙◌, refl, subst, arith, inl, inr, Result, Ok, Err, Option, None, Some}
-use Rattle.std.specs.Prelude.{leb, ◌&&◌, codes}
+use Rattle.std.proofs.Common.{◌≡◌, ◌⊎◌, ◌≤◌, ℕ, List, [], ◌∷◌, sym, ap, ◌∙◌, subst, arith, inl, inr, Ok, Option, None, Some}
+use Rattle.std.specs.Prelude.{codes}
 use Rattle.clap.specs.Words.{Row, Text, Kinds, first_of, fault_of, matches_of}
 use Rattle.std.proofs.lemmas.Bool.Decides.{nat_tests}
+use Rattle.wh_words.specs.Limits.{most_level_tuples}
 use Rattle.wh_text.specs.declared.status.Status.{Status}
-use Rattle.wh_text.specs.declared.status.Status.TheVariants.{Done, No, Refused, Undecided}
+use Rattle.wh_text.specs.declared.status.Status.TheVariants.{Done, No}
 use Rattle.wh_text.specs.declared.command.Command.{Command}
 use Rattle.wh_text.specs.declared.answer.Answer as answers
 use Rattle.wh_text.specs.declared.answer.Answer.TheVariants.{Reduce, Decide}
 use Rattle.wh_text.specs.declared.answer.Verdict.TheVariants as verdicts
-use Rattle.wh_text.specs.Numbers.{number}
+use Rattle.wh_lines.specs.Numbers.{number}
 use Rattle.wh_text.specs.Problems.{ProblemData, problem}
 use Rattle.wh_text.specs.AnswerTexts.{answer_text}
 use Rattle.wh_text.specs.AnswerData.{answer_of}
@@ -24,13 +25,12 @@ use Rattle.whitehead.specs.declared.arguments.Task.{Task}
 use Rattle.whitehead.specs.declared.arguments.Task.TheVariants as tasks
 use Rattle.whitehead.specs.declared.arguments.Arguments.{Arguments}
 use Rattle.whitehead.specs.CommandLine.{program}
-use Rattle.whitehead.specs.Asked.{in_range, option_in, together, asked_by, asked_unless, asked, task_in}
+use Rattle.whitehead.specs.Asked.{in_range, option_in, together, asked_unless, asked, task_in}
 use Rattle.whitehead.specs.CheckedTexts.{checked_text}
 use Rattle.whitehead.specs.Replies.{Replies}
 use Rattle.whitehead.specs.Replies.Replies.{refused, answered, unread, checked}
-use Rattle.whitehead.specs.Outcome.{Told}
 use Rattle.whitehead.specs.Outcome.Told.{words_refused, replied}
-use Rattle.whitehead.specs.Laws.{AskAnswer, AskCheck, AnswersAreValid}
+use Rattle.whitehead.specs.Laws.{AnswersAreValid}
 use Rattle.whitehead.proofs.ReadProblems.{read_problem}
 
 -- ---- the limit of a run
@@ -50,13 +50,13 @@ together_limit (Some task) (Some limit) (Some workers) a e =
     let same : record { task = task; limit = limit; workers = workers } ≡ a = (cc) in
     ap (λ (b : Arguments). Some b.limit) same
 
-unless_limit : (kinds : Kinds) (rows : List Row) (a : Arguments) → asked_unless kinds rows ≡ Some a → a.limit ≤ 131072
+unless_limit : (kinds : Kinds) (rows : List Row) (a : Arguments) → asked_unless kinds rows ≡ Some a → a.limit ≤ most_level_tuples
 unless_limit [] rows a e =
-    let limit = together_limit (task_in (first_of (codes "COMMAND") rows)) (option_in 1 131072 10000 (first_of (codes "limit") rows)) (option_in 1 64 1 (first_of (codes "workers") rows)) a e in
-    option_within 1 131072 10000 (first_of (codes "limit") rows) a.limit (omega arith) limit
+    let limit = together_limit (task_in (first_of (codes "COMMAND") rows)) (option_in 1 most_level_tuples 10000 (first_of (codes "limit") rows)) (option_in 1 64 1 (first_of (codes "workers") rows)) a e in
+    option_within 1 most_level_tuples 10000 (first_of (codes "limit") rows) a.limit (omega arith) limit
 unless_limit (k ∷ ks) rows a e = absurd (cc)
 
-asked_limit : (words : List Text) (a : Arguments) → asked words ≡ Some a → a.limit ≤ 131072
+asked_limit : (words : List Text) (a : Arguments) → asked words ≡ Some a → a.limit ≤ most_level_tuples
 unfolding asked
 asked_limit words a e = unless_limit (fault_of program words) (matches_of program words) a e
 
@@ -70,15 +70,15 @@ decided_by (Decide s t (verdicts.Undecided bound)) (inl e) = absurd (cc)
 decided_by (Decide s t (verdicts.Undecided bound)) (inr e) = absurd (cc)
 
 -- ---- its text is checked
-valid_again : (limit : ℕ) (command : Command) (bytes : List ℕ) (p : ProblemData) (a : answers.Answer) → limit ≤ 131072 → problem command bytes ≡ Ok p → Answers limit p a → IsDecided (answer_of a) →
-    (other : ℕ) → Replies other (answer_text a) tasks.Check Done (codes "valid\n")
+valid_again : (limit : ℕ) (command : Command) (bytes : List ℕ) (p : ProblemData) (a : answers.Answer) → limit ≤ most_level_tuples → problem command bytes ≡ Ok p → Answers limit p a → IsDecided (answer_of a) →
+    (other : ℕ) → Replies other (answer_text (answer_of a)) tasks.Check Done (codes "valid\n")
 unfolding checked_text
 valid_again limit command bytes p a low read own decided other =
     let is = (read_problem command bytes p read).0 in
     let readable = answers_readable limit p a low is own decided in
-    checked Valid (reads_back a readable.certificate readable.short) (answers_valid limit p a is own decided)
+    checked Valid (reads_back (answer_of a) readable.certificate readable.short) (answers_valid limit p a is own decided)
 
-reply_valid : (limit : ℕ) (bytes text : List ℕ) (task : Task) (command : Command) (status : Status) → limit ≤ 131072 → task ≡ tasks.Answer command → (status ≡ Done) ⊎ (status ≡ No) → Replies limit bytes task status text →
+reply_valid : (limit : ℕ) (bytes text : List ℕ) (task : Task) (command : Command) (status : Status) → limit ≤ most_level_tuples → task ≡ tasks.Answer command → (status ≡ Done) ⊎ (status ≡ No) → Replies limit bytes task status text →
     (other : ℕ) → Replies other text tasks.Check Done (codes "valid\n")
 reply_valid limit bytes text task command status low is (inl e) (refused r) other = absurd (cc)
 reply_valid limit bytes text task command status low is (inr e) (refused r) other = absurd (cc)

@@ -4,5 +4,7 @@ pub mod Pieces
 pub mod Telling
 pub mod ReadProblems
 pub mod OneText
-pub mod Refusing
+pub mod KnownReplies
 pub mod Checking
+pub mod ReadTuples
+pub mod Meaning

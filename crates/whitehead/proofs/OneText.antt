@@ -1,6 +1,6 @@
 -- The words and the bytes of a run determine what is told.
 use Rattle.std.proofs.Common.{◌≡◌, ℕ, List, refl, sym, ap, ◌∙◌, subst, Result, Ok, Err, Option, Some}
-use Rattle.wh_text.specs.declared.read_error.ReadError.{ReadError}
+use Rattle.wh_lines.specs.declared.read_error.ReadError.{ReadError}
 use Rattle.wh_text.specs.declared.status.Status.{Status}
 use Rattle.wh_text.specs.Problems.{ProblemData}
 use Rattle.wh_text.specs.RefusalTexts.{refusal_text}

@@ -1,9 +1,12 @@
 -- One read or write after another, piece by piece.
-use Rattle.std.proofs.Common.{ℕ, ◌+◌, ◌≤◌, List, [], ◌++◌, length, take, drop, sym, ap, ◌∙◌, refl, append_assoc, append-nil, None, Some}
+use Rattle.std.proofs.Common.{ℕ, ◌+◌, ◌≤◌, List, [], ◌++◌, length, take, drop, sym, ap, ◌∙◌, refl, append_assoc, append-nil, None, Some, Ok, Err}
 use Rattle.std.proofs.lemmas.List.{take_all}
 use Rattle.std.proofs.Math.Seq.{take-add}
 use Rattle.std.specs.declared.option.Option.{Option}
+use Rattle.std.specs.Prelude.{OnErr}
+use Rattle.std.specs.declared.result.Result.{Result}
 use Rattle.wh_io.specs.Device.{Consumed, Appended}
+use Rattle.whitehead.specs.Streams.{IsPartRead}
 
 pub appended_then : (a b c : Option (List ℕ)) (xs ys : List ℕ) → Appended a b xs → Appended b c ys → Appended a c (xs ++ ys)
 appended_then a b None xs ys p q = tt
@@ -31,3 +34,8 @@ appended_more a b c text at n p q = rw (take-add at n text) (appended_then a b c
 
 pub appended_whole : (a b : Option (List ℕ)) (text : List ℕ) (at : ℕ) → length text ≤ at → Appended a b (take at text) → Appended a b text
 appended_whole a b text at h p = rw (take_all at text h) at p
+
+-- a source that gave xs and then ys before an error is told
+pub part_read : {T E : Type 0} (limit : ℕ) (a b c : Option (List ℕ)) (xs ys : List ℕ) (result : Result T E) → length (xs ++ ys) ≤ limit + 1 → Consumed a b xs → Consumed b c ys → OnErr result (IsPartRead limit a c)
+part_read limit a b c xs ys (Ok x) short p q = tt
+part_read limit a b c xs ys (Err e) short p q = (xs ++ ys, short, consumed_then a b c xs ys p q)

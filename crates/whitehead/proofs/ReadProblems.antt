@@ -1,17 +1,19 @@
 -- The problems that are read can be answered.
-use Rattle.std.proofs.Common.{◌≡◌, ℕ, ◌==◌, ltb, List, length, sym, ap, subst, Ok, Option, None, Some}
+use Rattle.std.proofs.Common.{◌≡◌, ℕ, ◌==◌, ltb, List, length, sym, ap, subst, Ok}
 use Rattle.wh_words.specs.Tuples.{TupleData, IsTuple}
 use Rattle.wh_words.proofs.StoredWords.{IsTuple-of}
 use Rattle.wh_text.specs.declared.command.Command.{Command}
 use Rattle.wh_text.specs.declared.command.Command.TheVariants as commands
-use Rattle.wh_text.specs.declared.read_error.ReadError.TheVariants as errors
-use Rattle.wh_text.specs.Lines.{lines}
-use Rattle.wh_text.specs.Readings.{◌>>=◌}
-use Rattle.wh_text.specs.Problems.{ProblemData, problem, problem_with, whole, lines_at, blank_sheet, most_bytes, one_tuple, two_tuples, decide_both}
+use Rattle.wh_lines.specs.declared.read_error.ReadError.TheVariants as errors
+use Rattle.wh_lines.specs.LineReadings.{start}
+use Rattle.wh_lines.specs.Readings.{◌>>=◌}
+use Rattle.wh_text.specs.RankLines.{rank_after}
+use Rattle.wh_text.specs.Problems.{ProblemData, problem, problem_after, problem_with, tuples_of, one_tuple, two_tuples, decide_both}
+use Rattle.wh_text.specs.Limits.{most_problem_bytes}
 use Rattle.wh_text.specs.Problems.ProblemData.{reduce, decide}
 use Rattle.wh_text.specs.Laws.{IsTupleLine}
-use Rattle.wh_text.proofs.Equations.{bind_ok, ok_is, if_ok, unless_ok}
-use Rattle.wh_text.proofs.TextLaws.{reads_reduce_texts, reads_decide_texts}
+use Rattle.wh_lines.proofs.Equations.{bind_ok, ok_is, if_ok, unless_ok}
+use Rattle.wh_text.proofs.ProblemLaws.{reads_reduce_texts, reads_decide_texts}
 use Rattle.wh_answer.specs.Answers.{IsAnswerable}
 use Rattle.wh_answer.specs.Laws.{IsProblem}
 
@@ -37,16 +39,13 @@ made_of commands.Decide ts p e =
     let made = if_ok (length both.0.0.words == length both.0.1.words) (errors.SizeMismatch (length both.0.0.words) (length both.0.1.words)) (Ok (decide both.0.0 both.0.1)) p both.2 in
     subst (IsOf commands.Decide) (ok_is (decide both.0.0 both.0.1) p made.1) tt
 
-whole_of : (command : Command) (end : ℕ) (ts : List TupleData) (rank : Option ℕ) (p : ProblemData) → whole command end ts rank ≡ Ok p → IsOf command p
-whole_of command end ts None p e = absurd (cc)
-whole_of command end ts (Some n) p e = made_of command ts p e
-
 of_command : (command : Command) (bytes : List ℕ) (p : ProblemData) → problem command bytes ≡ Ok p → IsOf command p
-unfolding problem
+unfolding problem problem_after
 of_command command bytes p e =
-    let short = unless_ok (ltb most_bytes (length bytes)) (errors.InputTooLong most_bytes) (lines_at command 1 blank_sheet (lines bytes) >>= λ s. whole command s.1 s.0.tuples s.0.rank) p e in
-    let read = bind_ok (lines_at command 1 blank_sheet (lines bytes)) (λ s. whole command s.1 s.0.tuples s.0.rank) p short.1 in
-    whole_of command read.0.1 read.0.0.tuples read.0.0.rank p read.2
+    let short = unless_ok (ltb most_problem_bytes (length bytes)) (errors.InputTooLong most_problem_bytes) (problem_after command (start bytes)) p e in
+    let rank = bind_ok (rank_after command (start bytes)) (λ n. tuples_of n.0 n.1.rest >>= λ ts. problem_with command ts) p short.1 in
+    let tuples = bind_ok (tuples_of rank.0.0 rank.0.1.rest) (λ ts. problem_with command ts) p rank.2 in
+    made_of command tuples.0 p tuples.2
 
 -- ---- what is read
 pub read_problem : (command : Command) (bytes : List ℕ) (p : ProblemData) → problem command bytes ≡ Ok p → IsProblem p × IsAnswerable p

@@ -1,9 +1,10 @@
 -- What the words of the command line ask.
 use Rattle.std.specs.Prelude.{◌≡◌, ℕ, leb, ◌&&◌, cond, List, [], ◌∷◌, Option, Some, None, Result, Ok, Err, codes}
 use Rattle.clap.specs.Words.{Row, Text, Kinds, first_of, fault_of, matches_of}
+use Rattle.wh_words.specs.Limits.{most_level_tuples}
 use Rattle.wh_text.specs.declared.command.Command.TheVariants as commands
-use Rattle.wh_text.specs.Numbers.{number}
-use Rattle.wh_text.specs.Spellings.{are}
+use Rattle.wh_lines.specs.Numbers.{number}
+use Rattle.wh_lines.specs.Lines.{are}
 use Rattle.whitehead.specs.CommandLine.{program}
 use Rattle.whitehead.specs.declared.arguments.Task.{Task}
 use Rattle.whitehead.specs.declared.arguments.Task.TheVariants as tasks
@@ -39,7 +40,7 @@ together (Some task) (Some limit) (Some workers) = Some (record { task = task; l
 
 -- What the three texts ask. The limit is from 1 to 131,072 and stands at 10,000; there are 1 to 64 workers, and 1 where nothing is said.
 abbrev pub asked_by : Option Text → Option Text → Option Text → Option Arguments
-asked_by name limit workers = together (task_in name) (option_in 1 131072 10000 limit) (option_in 1 64 1 workers)
+asked_by name limit workers = together (task_in name) (option_in 1 most_level_tuples 10000 limit) (option_in 1 64 1 workers)
 
 abbrev pub asked_unless : Kinds → List Row → Option Arguments
 asked_unless [] rows = asked_by (first_of (codes "COMMAND") rows) (first_of (codes "limit") rows) (first_of (codes "workers") rows)

@@ -4,12 +4,12 @@ use Rattle.wh_text.specs.declared.command.Command.{Command}
 use Rattle.wh_text.specs.declared.status.Status.{Status}
 use Rattle.wh_text.specs.declared.status.Status.TheVariants.{Refused}
 use Rattle.wh_text.specs.declared.answer.Answer as answers
-use Rattle.wh_text.specs.declared.read_error.ReadError.{ReadError}
+use Rattle.wh_lines.specs.declared.read_error.ReadError.{ReadError}
 use Rattle.wh_text.specs.Problems.{ProblemData, problem}
 use Rattle.wh_text.specs.AnswerTexts.{answer_text}
 use Rattle.wh_text.specs.Statuses.{answer_status}
 use Rattle.wh_text.specs.RefusalTexts.{refusal_text}
-use Rattle.wh_text.specs.AnswerData.{CertificateData}
+use Rattle.wh_text.specs.AnswerData.{CertificateData, answer_of}
 use Rattle.wh_text.specs.Certificates.{certificate}
 use Rattle.wh_cert.specs.declared.checked.Checked.{Checked}
 use Rattle.wh_cert.specs.Checks.{Checks}
@@ -21,6 +21,6 @@ use Rattle.whitehead.specs.CheckedTexts.{checked_status, checked_text}
 -- The reply to these bytes for a task, where levels may have at most so many tuples. To a problem: the first refusal of the text, or else the text and the status of the answer. To a certificate: the first refusal of the text, or else what is found of it.
 pub data Replies (limit : ℕ) (bytes : List ℕ) : Task → Status → List ℕ → Type 0 where
   refused : {command : Command} {e : ReadError} → problem command bytes ≡ Err e → Replies limit bytes (Answer command) Refused (refusal_text e)
-  answered : {command : Command} {p : ProblemData} (answer : answers.Answer) → problem command bytes ≡ Ok p → Answers limit p answer → Replies limit bytes (Answer command) (answer_status answer) (answer_text answer)
+  answered : {command : Command} {p : ProblemData} (answer : answers.Answer) → problem command bytes ≡ Ok p → Answers limit p answer → Replies limit bytes (Answer command) (answer_status answer) (answer_text (answer_of answer))
   unread : {e : ReadError} → certificate bytes ≡ Err e → Replies limit bytes Check Refused (refusal_text e)
   checked : {c : CertificateData} (found : Checked) → certificate bytes ≡ Ok c → Checks c found → Replies limit bytes Check (checked_status found) (checked_text found)

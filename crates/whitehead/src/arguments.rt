@@ -8,6 +8,7 @@ use clap::error::ErrorKind;
 use std::alloc::Global;
 use thiserror::Error;
 use wh_text::{Command, canonical_number};
+use wh_words::MOST_LEVEL_TUPLES;
 
 /// What is to be done.
 #[derive(Clone, Copy, Debug, PartialEq, Eq)]
@@ -74,7 +75,7 @@ fn arguments_of(name: Option<&str>, limit: Option<&str>, workers: Option<&str>) 
     ensures { result ≡ asked_by (option_map (λ t. t.now) name.entry) (option_map (λ t. t.now) limit.entry) (option_map (λ t. t.now) workers.entry) }
 {
     let task = named_task(name)?;
-    let limit = option_in(1, 131072, 10000, limit)?;
+    let limit = option_in(1, MOST_LEVEL_TUPLES, 10000, limit)?;
     let workers = option_in(1, 64, 1, workers)?;
     Some(Arguments {
         task,

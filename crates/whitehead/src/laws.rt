@@ -1,5 +1,5 @@
 //! Laws of runs. Each is the contract of a function that does nothing.
-ghost use Rattle.whitehead.specs.Laws.{ToldIsUnique, AnswersAreValid};
+ghost use Rattle.whitehead.specs.Laws.{ToldIsUnique, AnswersAreValid, ValidIsShown};
 
 /// Words and bytes determine the status and the text that are told, byte for byte: two runs that aren't stopped by a fault
 /// or want of memory write the same.
@@ -10,4 +10,9 @@ pub fn told()
 /// What a run writes for a problem that it decides or reduces is told `valid`, when another run checks it.
 pub fn answers()
     ensures { AnswersAreValid }
+{}
+
+/// Whatever text a run tells `valid` is a certificate, whoever wrote it, and shows what it says.
+pub fn valid_texts()
+    ensures { ValidIsShown }
 {}

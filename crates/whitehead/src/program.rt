@@ -1,17 +1,16 @@
 //! A run of the program.
 ghost use Rattle.std.specs.Prelude.{◌≡◌, None, map};
-ghost use Rattle.wh_io.specs.Device.{Rose};
 ghost use Rattle.whitehead.specs.Asked.{asked};
 ghost use Rattle.whitehead.specs.Endings.{Finished};
 ghost use Rattle.whitehead.specs.Outcome as spec;
-ghost use Rattle.whitehead.specs.Outcome.{RanTo};
+ghost use Rattle.whitehead.specs.Outcome.{RanTo, IsSilent, source_count, sink_count};
 
 use crate::arguments::{Task, WordsError, read_arguments};
 use crate::reply::reply_to;
 use crate::streams::{InputError, read_all, write_all};
 use std::alloc::Global;
 use wh_io::{Sink, Source};
-use wh_text::{Status, refused_words};
+use wh_text::{MOST_ANSWER_BYTES, MOST_PROBLEM_BYTES, Status, refused_words};
 use wh_words::OutOfMemory;
 
 /// How many bytes the input of a task may have.
@@ -19,14 +18,14 @@ fn most_input(task: Task) -> usize
     ensures { result ≡ spec.most_input task }
 {
     match task {
-        Task::Answer(_) => 1048576,
-        Task::Check => 67108864,
+        Task::Answer(_) => MOST_PROBLEM_BYTES,
+        Task::Check => MOST_ANSWER_BYTES,
     }
 }
 
 /// Writes a text, and answers the status, or the fault of writing.
 fn finish<K: Sink>(sink: &mut K, text: &[u8], status: Status) -> Status
-    ensures { Finished (K.held sink.old) (K.held sink.new) (K.fault_count sink.old) (K.fault_count sink.new) text.now status result }
+    ensures { Finished (K.held sink.old) (K.held sink.new) (K.sent sink.new) (K.fault_count sink.old) (K.fault_count sink.new) text.now status result }
 {
     match write_all(sink, text) {
         Ok(()) => status,
@@ -37,20 +36,23 @@ fn finish<K: Sink>(sink: &mut K, text: &[u8], status: Status) -> Status
 /// Runs the program: reads its words, which stand after its name, then the whole source, and writes the answer or the
 /// first refusal to the sink. The text stands whole in memory before the first byte is written.
 ///
-/// Where the source tells its bytes and the sink what it holds, the clause `ran` says for `Done`, `No`, `Refused` and
-/// `Undecided` that the sink grew by exactly the text that these words and these bytes are told, and that the source was
-/// read to its end or to one byte past 1,048,576, or past 67,108,864 for `check`. For `WriteFault` it grew by a front of such a text, and for `ReadFault`
-/// and `OutOfMemory` by nothing. Where the words are refused nothing is read.
+/// Where the source tells its bytes and the sink what it holds and sent on, the clause `ran` says for `Done`, `No`,
+/// `Refused` and `Undecided` that the sink grew by exactly the text that these words and these bytes are told, that it
+/// sent on all that it holds, and that the source was read to its end or to one byte past 1,048,576, or past 67,108,864
+/// for `check`. For `WriteFault` it grew by a front of such a text. For `ReadFault` and `OutOfMemory` the sink is as it
+/// was, and a front of the source was read. `ReadFault` comes exactly where the source failed, and `WriteFault` where the
+/// sink did: each fault is counted, and ends the run. Where the words are refused nothing is read.
 pub fn run<S: Source, K: Sink>(
     alloc: Global,
     words: &[&str],
     source: &mut S,
     sink: &mut K,
 ) -> Status
-    ensures ran { RanTo (map (λ w. w.now) words.now) (S.left source.old) (S.left source.new) (K.held sink.old) (K.held sink.new) result }
-    ensures read_fault { result ≡ Status.ReadFault → Rose (S.fault_count source.old) (S.fault_count source.new) }
-    ensures write_fault { result ≡ Status.WriteFault → Rose (K.fault_count sink.old) (K.fault_count sink.new) }
+    ensures ran { RanTo (map (λ w. w.now) words.now) (S.left source.old) (S.left source.new) (K.held sink.old) (K.held sink.new) (K.sent sink.new) result }
+    ensures read_faults { S.fault_count source.new ≡ source_count (S.fault_count source.old) result }
+    ensures write_faults { K.fault_count sink.new ≡ sink_count (K.fault_count sink.old) result }
     ensures unread { asked (map (λ w. w.now) words.now) ≡ None → source.new ≡ source.old }
+    ensures unwritten { IsSilent result → sink.new ≡ sink.old }
 {
     let arguments = match read_arguments(alloc, words) {
         Ok(arguments) => arguments,

@@ -1,8 +1,17 @@
 //! The reply to the bytes of an input.
-ghost use Rattle.std.specs.Prelude.{◌≡◌, ◌≢◌, IfOk};
+ghost use Rattle.std.specs.Prelude.{◌≡◌, ◌≢◌, ℕ, IfOk, Ok};
+ghost use Rattle.std.specs.Prelude as prelude;
+ghost use Rattle.wh_text.specs.declared.command.Command.{Command};
 ghost use Rattle.wh_text.specs.declared.status.Status.TheVariants.{Refused};
-ghost use Rattle.wh_text.specs.declared.read_error.ReadError.TheVariants as errors;
+ghost use Rattle.wh_lines.specs.declared.read_error.ReadError.TheVariants as errors;
+ghost use Rattle.wh_text.specs.Problems.{problem_of, problem as stated};
+ghost use Rattle.wh_text.specs.AnswerTexts.{answer_text, IsPrintable};
+ghost use Rattle.wh_text.specs.AnswerData.{answer_of, certificate_of};
+ghost use Rattle.wh_text.specs.Certificates.{certificate};
+ghost use Rattle.wh_text.specs.Numberings.{IsNumbered};
 ghost use Rattle.wh_text.specs.RefusalTexts.{refusal_text};
+ghost use Rattle.wh_text.specs.Statuses.{answer_status};
+ghost use Rattle.wh_answer.specs.Answers.{IsAnswerable};
 ghost use Rattle.whitehead.specs.declared.arguments.Task.TheVariants as tasks;
 ghost use Rattle.whitehead.specs.Replies.{Replies};
 
@@ -11,7 +20,10 @@ use crate::checked_text::{print_checked, status_of};
 use std::alloc::Global;
 use wh_answer::answer;
 use wh_cert::check;
-use wh_text::{Command, ReadError, Status, print_answer, print_refusal, read_answer, read_problem};
+use wh_text::{
+    Answer, Command, Numbered, Problem, ReadError, Status, print_answer, print_refusal,
+    read_answer, read_problem,
+};
 use wh_words::{List, OutOfMemory};
 
 /// A status and a text.
@@ -34,6 +46,30 @@ fn refusal_reply(alloc: Global, refusal: ReadError) -> Result<Reply, OutOfMemory
     })
 }
 
+/// The reply that tells an answer: its text, with its status.
+fn reply_with(alloc: Global, answer: &Answer) -> Result<Reply, OutOfMemory>
+    requires { IsPrintable (answer_of answer.now) }
+    ensures status { IfOk result (λ r. r.status ≡ answer_status answer.now) }
+    ensures text { IfOk result (λ r. r.text ≡ answer_text (answer_of answer.now)) }
+{
+    let text = print_answer(alloc, answer)?;
+    Ok(Reply {
+        status: answer.status(),
+        text: List::of(text),
+    })
+}
+
+/// The reply to a problem: its answer.
+fn problem_reply(alloc: Global, problem: &Problem, limit: u32) -> Result<Reply, OutOfMemory>
+    requires { IsAnswerable (problem_of problem.now) }
+    ensures { (command : Command) (bytes : prelude.List ℕ) → stated command bytes ≡ Ok (problem_of problem.now) → IfOk result (λ r. Replies limit bytes (tasks.Answer command) r.status r.text) }
+{
+    let answer = answer(alloc, problem, limit)?;
+    let reply = reply_with(alloc, &answer);
+    drop(answer);
+    reply
+}
+
 /// The reply to the text of a problem: the line of its first refusal, or the text of its answer.
 #[tactic(auto, using(crate::proofs::ReadProblems::answerable))]
 fn answer_reply(
@@ -46,16 +82,26 @@ fn answer_reply(
 {
     match read_problem(alloc, command, bytes) {
         Ok(problem) => {
-            let answer = answer(alloc, &problem, limit)?;
-            let text = print_answer(alloc, &answer)?;
-            Ok(Reply {
-                status: answer.status(),
-                text: List::of(text),
-            })
+            let reply = problem_reply(alloc, &problem, limit);
+            drop(problem);
+            reply
         }
         Err(ReadError::OutOfMemory) => Err(OutOfMemory),
         Err(refusal) => refusal_reply(alloc, refusal),
     }
+}
+
+/// The reply to an answer that is to be checked: what is found of it.
+fn certificate_reply(alloc: Global, numbered: &Numbered) -> Result<Reply, OutOfMemory>
+    requires { IsNumbered (certificate_of numbered.now) }
+    ensures { (limit : ℕ) (bytes : prelude.List ℕ) → certificate bytes ≡ Ok (certificate_of numbered.now) → IfOk result (λ r. Replies limit bytes tasks.Check r.status r.text) }
+{
+    let found = check(alloc, numbered)?;
+    let text = print_checked(alloc, found)?;
+    Ok(Reply {
+        status: status_of(found),
+        text: List::of(text),
+    })
 }
 
 /// The reply to the text of an answer that is to be checked: the line of its first refusal, or what is found.
@@ -64,12 +110,9 @@ fn check_reply(alloc: Global, limit: u32, bytes: &[u8]) -> Result<Reply, OutOfMe
 {
     match read_answer(alloc, bytes) {
         Ok(numbered) => {
-            let found = check(alloc, &numbered)?;
-            let text = print_checked(alloc, found)?;
-            Ok(Reply {
-                status: status_of(found),
-                text: List::of(text),
-            })
+            let reply = certificate_reply(alloc, &numbered);
+            drop(numbered);
+            reply
         }
         Err(ReadError::OutOfMemory) => Err(OutOfMemory),
         Err(refusal) => refusal_reply(alloc, refusal),

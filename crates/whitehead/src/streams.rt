@@ -1,7 +1,7 @@
 //! Whole inputs and whole texts.
-ghost use Rattle.std.specs.Prelude.{◌<◌, ◌≤◌, ◌^◌, IfOk, IfErr, OnOk};
-ghost use Rattle.wh_io.specs.Device.{Consumed, Appended, HasCause};
-ghost use Rattle.whitehead.specs.Streams.{IsInputFault, IsWholeUpTo, IsPartWritten};
+ghost use Rattle.std.specs.Prelude.{◌≡◌, ◌<◌, ◌^◌, IfOk, OnOk, OnErr};
+ghost use Rattle.wh_io.specs.Device.{Consumed, counted};
+ghost use Rattle.whitehead.specs.Streams.{read_count, IsWholeUpTo, IsPartRead, IsWritten, IsPartWritten};
 
 use std::alloc::Global;
 use thiserror::Error;
@@ -18,8 +18,10 @@ pub enum InputError {
     OutOfMemory,
 }
 
-/// The bytes of a source to its end, or to one byte past the limit. `Fault` comes only where the source's count of
-/// faults rose in this call.
+/// The bytes of a source to its end, or to one byte past the limit.
+///
+/// `Fault` comes where the source failed, which is counted, and `OutOfMemory` where there was no memory. The source has
+/// then given a front of its bytes, of one more than the limit at most, and the others are left.
 pub fn read_all<S: Source>(
     alloc: Global,
     source: &mut S,
@@ -28,16 +30,16 @@ pub fn read_all<S: Source>(
     requires { limit < 2 ^ 32 }
     ensures bytes { IfOk result (λ v. Consumed (S.left source.old) (S.left source.new) v.items) }
     ensures whole { IfOk result (λ v. IsWholeUpTo limit v.items (S.left source.new)) }
-    ensures fault { IfErr result (IsInputFault (S.fault_count source.old) (S.fault_count source.new)) }
-    ensures later { S.fault_count source.old ≤ S.fault_count source.new }
+    ensures part { OnErr result (IsPartRead limit (S.left source.old) (S.left source.new)) }
+    ensures fault { S.fault_count source.new ≡ read_count (S.fault_count source.old) result }
 {
     let mut bytes = Vec::new(alloc);
     let mut block = [0; 4096];
     'blocks: while bytes.len() <= limit {
         let room = block.len().min(limit + 1 - bytes.len());
-        let count = source
-            .read(&mut block[..room])
-            .map_err(|_| InputError::Fault)?;
+        let Ok(count) = source.read(&mut block[..room]) else {
+            return Err(InputError::Fault);
+        };
         if count == 0 {
             return Ok(bytes);
         }
@@ -48,12 +50,13 @@ pub fn read_all<S: Source>(
     Ok(bytes)
 }
 
-/// Writes a whole text and flushes. After `Failed`, which comes only where the sink's count of faults rose in this call,
-/// a front of the text is written.
+/// Writes a whole text and flushes, so that the sink sent on all that it holds.
+///
+/// `Failed` comes where the sink failed, which is counted. It has then taken a front of the text.
 pub fn write_all<K: Sink>(sink: &mut K, text: &[u8]) -> Result<(), Failed>
-    ensures whole { OnOk result (Appended (K.held sink.old) (K.held sink.new) text.now) }
+    ensures whole { OnOk result (IsWritten (K.held sink.old) (K.held sink.new) (K.sent sink.new) text.now) }
     ensures part { IsPartWritten (K.held sink.old) (K.held sink.new) text.now }
-    ensures cause { HasCause (K.fault_count sink.old) (K.fault_count sink.new) result }
+    ensures fault { K.fault_count sink.new ≡ counted (K.fault_count sink.old) result }
 {
     let mut at = 0;
     'pieces: while at < text.len() {

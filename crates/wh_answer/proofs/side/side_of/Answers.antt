@@ -1,5 +1,5 @@
 use Rattle.std.proofs.Common.{sym, subst}
-use Rattle.wh_text.specs.FlowTexts.{HaveLines}
+use Rattle.wh_fields.specs.FlowFields.{HaveLines}
 use Rattle.wh_answer.proofs.Sides.{flows_have_lines}
 use Rattle.wh_answer.proofs.side.side_of.Goals as goal
 

@@ -10,19 +10,19 @@ pub returns-in_err-judge_side : goal.returns-in_err-judge_side
 returns-in_err-judge_side c lengths rule tested =
     let n : ℕ = c.args.first.now.plain.rank in
     let asks : Demand = lengths c.args.a.now.end.plain c.args.b.now.end.plain in
-    stopped_first (side_asked 5 c.args.heads.now c.args.first.now.plain (side_of c.args.a.now))
-    (trace_asked (5 + side_lines n) c.args.second.now.plain (side_of c.args.b.now) ++ ((5 + side_lines n + 1, asks) ∷ flows_asked (5 + side_lines n + 2) n c.args.heads.now (side_of c.args.b.now)))
+    stopped_first (side_asked c.args.place c.args.heads.now c.args.first.now.plain (side_of c.args.a.now))
+    (trace_asked (c.args.place + side_lines n) c.args.second.now.plain (side_of c.args.b.now) ++ ((c.args.place + side_lines n + 1, asks) ∷ flows_asked (c.args.place + side_lines n + 2) n c.args.heads.now (side_of c.args.b.now)))
     c.judge_side.result c.from_residual.result c.in_err-judge_side.field-0.0 c.judge_side.ensures (search rules) (search rules)
 
 pub returns : goal.returns
 returns c lengths rule tested =
     let n : ℕ = c.args.first.now.plain.rank in
     let asks : Demand = lengths c.args.a.now.end.plain c.args.b.now.end.plain in
-    let place : 5 + c.side_lines.result ≡ 5 + side_lines n = omega (arith, c.side_lines.ensures.same, c.rank.ensures.rank) in
-    judged_after (side_asked 5 c.args.heads.now c.args.first.now.plain (side_of c.args.a.now))
-    (trace_asked (5 + side_lines n) c.args.second.now.plain (side_of c.args.b.now) ++ ((5 + side_lines n + 1, asks) ∷ flows_asked (5 + side_lines n + 2) n c.args.heads.now (side_of c.args.b.now)))
+    let place : c.args.place + c.side_lines.result ≡ c.args.place + side_lines n = omega (arith, c.side_lines.ensures.same, c.rank.ensures.rank) in
+    judged_after (side_asked c.args.place c.args.heads.now c.args.first.now.plain (side_of c.args.a.now))
+    (trace_asked (c.args.place + side_lines n) c.args.second.now.plain (side_of c.args.b.now) ++ ((c.args.place + side_lines n + 1, asks) ∷ flows_asked (c.args.place + side_lines n + 2) n c.args.heads.now (side_of c.args.b.now)))
     c.judge_second.result
-    (met_ok (side_asked 5 c.args.heads.now c.args.first.now.plain (side_of c.args.a.now)) c.judge_side.result c.in_ok-judge_side.field-0 c.judge_side.ensures (search rules))
+    (met_ok (side_asked c.args.place c.args.heads.now c.args.first.now.plain (side_of c.args.a.now)) c.judge_side.result c.in_ok-judge_side.field-0 c.judge_side.ensures (search rules))
     (subst (λ (p : ℕ). Judges (trace_asked p c.args.second.now.plain (side_of c.args.b.now) ++ ((p + 1, asks) ∷ flows_asked (p + 2) n c.args.heads.now (side_of c.args.b.now))) c.judge_second.result) place
-    (subst (λ (m : ℕ). Judges (trace_asked (5 + c.side_lines.result) c.args.second.now.plain (side_of c.args.b.now) ++ ((5 + c.side_lines.result + 1, asks) ∷ flows_asked (5 + c.side_lines.result + 2) m c.args.heads.now (side_of c.args.b.now))) c.judge_second.result)
+    (subst (λ (m : ℕ). Judges (trace_asked (c.args.place + c.side_lines.result) c.args.second.now.plain (side_of c.args.b.now) ++ ((c.args.place + c.side_lines.result + 1, asks) ∷ flows_asked (c.args.place + c.side_lines.result + 2) m c.args.heads.now (side_of c.args.b.now))) c.judge_second.result)
     c.requires.one_rank (c.judge_second.ensures asks rule tested)))

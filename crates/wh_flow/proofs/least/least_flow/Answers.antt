@@ -1,7 +1,7 @@
 use Rattle.std.proofs.Common.{ℕ, ◌≡◌, ◌+◌, ◌*◌, ◌∙◌, sym, ap, subst, inl, arith, List}
 use Rattle.wh_words.specs.Flows.{IsWithin}
 use Rattle.wh_flow.specs.Nets.{cell}
-use Rattle.wh_flow.specs.Residuals.{Residual}
+use Rattle.wh_flow.specs.Residuals.{ResidualNet}
 use Rattle.wh_flow.specs.Rerouting.{HaveOneNetFlow, IsFirstUpTo}
 use Rattle.wh_flow.specs.Searches.{IsOfLetters}
 use Rattle.wh_flow.proofs.Rerouted.{first_done, first_past}
@@ -9,8 +9,8 @@ use Rattle.wh_flow.proofs.least.least_flow.Goals as goal
 
 pub returns-clause-first : goal.returns-clause-first
 returns-clause-first c =
-    let cap : c.of-residual.result.cap ≡ c.args.net.now.cells = ap (λ (r : Residual). r.cap) c.of-residual.ensures in
-    let flow : c.of-residual.result.flow ≡ c.args.flow.now = ap (λ (r : Residual). r.flow) c.of-residual.ensures in
+    let cap : c.of-residual.result.cap ≡ c.args.net.now.cells = ap (λ (r : ResidualNet). r.cap) c.of-residual.ensures in
+    let flow : c.of-residual.result.flow ≡ c.args.flow.now = ap (λ (r : ResidualNet). r.flow) c.of-residual.ensures in
     let within : IsWithin (cell c.args.net.now.cells) (cell c.into_flow.result) =
     subst (λ (l : List ℕ). IsWithin (cell l) (cell c.into_flow.result)) (c.lower_all.ensures.cap ∙ cap) c.into_flow.ensures.within in
     let net : HaveOneNetFlow (cell c.args.flow.now) (cell c.into_flow.result) =

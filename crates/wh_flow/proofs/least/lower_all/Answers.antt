@@ -1,7 +1,7 @@
 use Rattle.std.proofs.Common.{ℕ, ◌≡◌, ◌+◌, ◌*◌, ◌∙◌, arith, sym, ap, subst, List}
 use Rattle.wh_flow.specs.Nets.{cell}
 use Rattle.wh_flow.specs.Rerouting.{IsFirstUpTo}
-use Rattle.wh_flow.proofs.Rerouted.{nets_on}
+use Rattle.wh_flow.proofs.Entries.{nets_on}
 use Rattle.wh_flow.proofs.least.lower_all.Goals as goal
 
 pub lower_row-requires-clause-first : goal.lower_row-requires-clause-first

@@ -1,9 +1,10 @@
 use Rattle.std.proofs.Common.{ℕ, ◌≡◌, ◌+◌, ◌*◌, ◌∙◌, arith, refl, sym, ap, subst, inr, List}
 use Rattle.wh_flow.specs.Nets.{cell}
-use Rattle.wh_flow.specs.Residuals.{Residual}
+use Rattle.wh_flow.specs.Residuals.{ResidualNet}
 use Rattle.wh_flow.specs.Rerouting.{IsFirstUpTo, IsLeastAt, HaveOneNetFlow}
 use Rattle.wh_words.specs.Flows.{AgreeBefore, place}
-use Rattle.wh_flow.proofs.Rerouted.{first_next, nets_on}
+use Rattle.wh_flow.proofs.Rerouted.{first_next}
+use Rattle.wh_flow.proofs.Entries.{nets_on}
 use Rattle.wh_flow.proofs.least.lower_row.Goals as goal
 
 pub loop-y-init : goal.loop-y-init
@@ -18,9 +19,9 @@ loop-y-init c =
 
 pub loop-y-preserved : goal.loop-y-preserved
 loop-y-preserved c =
-    let cap : c.pass.new.self.cap ≡ c.args.residual.now.cap = ap (λ (r : Residual). r.cap) c.pass.ensures ∙ c.loop-y.invariant.cap in
-    let flow : c.pass.new.self.flow ≡ c.loop-y.residual.flow = ap (λ (r : Residual). r.flow) c.pass.ensures in
-    let from : c.pass.new.self.from ≡ c.loop-y.residual.from + 1 = ap (λ (r : Residual). r.from) c.pass.ensures in
+    let cap : c.leave_out.new.self.cap ≡ c.args.residual.now.cap = ap (λ (r : ResidualNet). r.cap) c.leave_out.ensures ∙ c.loop-y.invariant.cap in
+    let flow : c.leave_out.new.self.flow ≡ c.loop-y.residual.flow = ap (λ (r : ResidualNet). r.flow) c.leave_out.ensures in
+    let from : c.leave_out.new.self.from ≡ c.loop-y.residual.from + 1 = ap (λ (r : ResidualNet). r.from) c.leave_out.ensures in
     let nets : HaveOneNetFlow (cell c.loop-y.residual.flow) (cell c.lower.new.residual.flow) =
     subst (λ (l : List ℕ). HaveOneNetFlow (cell l) (cell c.lower.new.residual.flow)) flow c.lower.ensures.net in
     let front : AgreeBefore (place c.args.x c.loop-y.y) (cell c.loop-y.residual.flow) (cell c.lower.new.residual.flow) =

@@ -1,19 +1,19 @@
 use Rattle.std.proofs.Common.{ℕ, ◌≡◌, ◌+◌, ◌≤◌, ◌∙◌, arith, sym, ap, subst, List, replicate, cond}
 use Rattle.wh_words.specs.Flows.{IsFlow, inflow, outflow}
 use Rattle.wh_flow.specs.Nets.{cell}
-use Rattle.wh_flow.specs.Residuals.{Residual}
+use Rattle.wh_flow.specs.Residuals.{ResidualNet}
 use Rattle.wh_flow.proofs.Rounds.{starts_flow, starts_even, gap_falls, out_most}
 use Rattle.wh_flow.proofs.maximum.max_flow.Goals as goal
 
 pub raise-init : goal.raise-init
 raise-init g c =
-    let flow : c.at_rest-residual.result.flow ≡ replicate 2704 0 = ap (λ (r : Residual). r.flow) c.at_rest-residual.ensures in
+    let flow : c.without_flow-residual.result.flow ≡ replicate 2704 0 = ap (λ (r : ResidualNet). r.flow) c.without_flow-residual.ensures in
     record {
       sink = c.new-search.ensures.sink;
-      cap = ap (λ (r : Residual). r.cap) c.at_rest-residual.ensures;
-      from = ap (λ (r : Residual). r.from) c.at_rest-residual.ensures;
-      flow = starts_flow (cell c.args.net.now.cells) c.at_rest-residual.result.flow c.args.s c.args.t flow;
-      count = omega (arith, starts_even c.at_rest-residual.result.flow c.args.s c.index.ensures.below flow);
+      cap = ap (λ (r : ResidualNet). r.cap) c.without_flow-residual.ensures;
+      from = ap (λ (r : ResidualNet). r.from) c.without_flow-residual.ensures;
+      flow = starts_flow (cell c.args.net.now.cells) c.without_flow-residual.result.flow c.args.s c.args.t flow;
+      count = omega (arith, starts_even c.without_flow-residual.result.flow c.args.s c.index.ensures.below flow);
     }
 
 pub raise-smaller : goal.raise-smaller

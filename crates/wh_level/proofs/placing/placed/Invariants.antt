@@ -1,7 +1,7 @@
-use Rattle.std.proofs.Common.{map}
+use Rattle.std.proofs.Common.{[], map, take}
 use Rattle.wh_expand.specs.Rows.{row_tuple}
-use Rattle.wh_level.proofs.Placings.{IsPlacedTo}
+use Rattle.wh_sets.specs.TupleSets.{AreAdded}
 use Rattle.wh_level.proofs.placing.placed.Given as goal
 
-abbrev pub invariant-loop-number : goal.invariant-loop-number
-invariant-loop-number l = IsPlacedTo (map row_tuple l.rows) l.places l.number
+abbrev pub invariant-loop-row : goal.invariant-loop-row
+invariant-loop-row l = AreAdded [] (map row_tuple (take l.row-index l.rows)) l.places

@@ -1,9 +1,8 @@
-use Rattle.std.proofs.Common.{◌≡◌, ◌<◌, ◌≤◌, ◌∙◌, ℕ, Some, slice_get, length, sym, ap, subst, arith, map}
-use Rattle.std.proofs.lemmas.List.{length-map}
+use Rattle.std.proofs.Common.{◌≡◌, ◌<◌, ◌≤◌, ◌∙◌, Some, slice_get, length, sym, ap, subst, arith, map}
 use Rattle.std.proofs.lemmas.Option.{slice_get_within}
 use Rattle.wh_words.specs.Tuples.{TupleData}
 use Rattle.wh_expand.specs.Rows.{row_tuple}
-use Rattle.wh_level.specs.PlacedTuples.{tuples_of, HasRoomsFor}
+use Rattle.wh_level.specs.PlacedTuples.{HasRoomsFor}
 use Rattle.wh_level.specs.Searches.{GoesOver, IsAbsentImage}
 use Rattle.wh_level.specs.Trees.{AreParents}
 use Rattle.wh_level.proofs.FirstParents.{past_from_none, started_at, next_within, next_tuple, cells_of, row_at, row_within, row_tuple_is, row_good, missed_root, missed_image, went_over}
@@ -12,52 +11,52 @@ use Rattle.wh_level.proofs.SearchEnds.{level_whole, parents_whole}
 use Rattle.wh_level.proofs.search.first_parents.Goals as goal
 
 pub returns-in_default-clause-parents : goal.returns-in_default-clause-parents
-returns-in_default-clause-parents c = missed_root c.args.root.now.plain (tuples_of c.args.places.now) c.in_default.ensures
+returns-in_default-clause-parents c = missed_root c.args.root.now.plain c.args.places.now c.in_default.ensures
 
 pub start-requires : goal.start-requires
-start-requires c = omega (arith, c.count.ensures, length-map c.args.places.now (λ (e : TupleData × ℕ). e.0), slice_get_within (tuples_of c.args.places.now) c.in-Some.start c.args.root.now.plain c.in-Some.ensures)
+start-requires c = omega (arith, c.len.ensures.len, slice_get_within c.args.places.now c.in-Some.start c.args.root.now.plain c.in-Some.ensures)
 
 pub loop-from-init : goal.loop-from-init
 loop-from-init c = record {
   rooms = rooms_itself c.args.image.now;
-  searched = started_at c.args.root.now.plain (tuples_of c.args.places.now) c.count.result c.in-Some.start c.in_ok-search.search
-      (c.count.ensures ∙ sym (length-map c.args.places.now (λ (e : TupleData × ℕ). e.0))) c.in-Some.ensures c.in_ok-search.ensures;
+  searched = started_at c.args.root.now.plain c.args.places.now c.len.result c.in-Some.start c.in_ok-search.search
+      c.len.ensures.len c.in-Some.ensures c.in_ok-search.ensures;
 }
 
-pub row-requires : goal.row-requires
-row-requires c =
+pub index-number-requires : goal.index-number-requires
+index-number-requires c =
     let next = next_tuple c.loop-from.invariant.searched c.in-Some-found.from (sym c.found.ensures ∙ c.in-Some-found.is) in
-    omega (arith, length-map c.args.places.now (λ (e : TupleData × ℕ). e.0), slice_get_within (tuples_of c.args.places.now) c.in-Some-found.from next.0 next.1)
+    omega (arith, c.in_ok-numbers.ensures.count, slice_get_within c.args.places.now c.in-Some-found.from next.0 next.1)
 
-pub bounds-rows-row : goal.bounds-rows-row
-bounds-rows-row c =
+pub bounds-rows-number : goal.bounds-rows-number
+bounds-rows-number c =
     let next = next_tuple c.loop-from.invariant.searched c.in-Some-found.from (sym c.found.ensures ∙ c.in-Some-found.is) in
-    row_within c.args.rows.now c.row.result next.0 (row_at (map row_tuple c.args.rows.now) c.args.places.now c.in-Some-found.from c.row.result next.0 c.requires.placing.placing next.1 c.row.ensures)
+    row_within c.args.rows.now c.index-number.result.now next.0 (row_at (map row_tuple c.args.rows.now) c.args.places.now c.in_ok-numbers.numbers.items c.in-Some-found.from c.index-number.result.now next.0 c.in_ok-numbers.ensures next.1 c.index-number.ensures)
 
-pub offset_bounds-rows-row : goal.offset_bounds-rows-row
-offset_bounds-rows-row c =
+pub offset_bounds-rows-number : goal.offset_bounds-rows-number
+offset_bounds-rows-number c =
     let next = next_tuple c.loop-from.invariant.searched c.in-Some-found.from (sym c.found.ensures ∙ c.in-Some-found.is) in
-    let within : c.row.result < length c.args.rows.now =
-    row_within c.args.rows.now c.row.result next.0 (row_at (map row_tuple c.args.rows.now) c.args.places.now c.in-Some-found.from c.row.result next.0 c.requires.placing.placing next.1 c.row.ensures) in
+    let within : c.index-number.result.now < length c.args.rows.now =
+    row_within c.args.rows.now c.index-number.result.now next.0 (row_at (map row_tuple c.args.rows.now) c.args.places.now c.in_ok-numbers.numbers.items c.in-Some-found.from c.index-number.result.now next.0 c.in_ok-numbers.ensures next.1 c.index-number.ensures) in
     omega arith
 
 pub expand-requires-clause-row : goal.expand-requires-clause-row
 expand-requires-clause-row c =
     let next = next_tuple c.loop-from.invariant.searched c.in-Some-found.from (sym c.found.ensures ∙ c.in-Some-found.is) in
-    let at : slice_get (map row_tuple c.args.rows.now) c.row.result ≡ Some next.0 = row_at (map row_tuple c.args.rows.now) c.args.places.now c.in-Some-found.from c.row.result next.0 c.requires.placing.placing next.1 c.row.ensures in
-    row_good c.args.rows.now c.row.result c.index-rows-row.result c.requires.rows (row_within c.args.rows.now c.row.result next.0 at) c.index-rows-row.is
+    let at : slice_get (map row_tuple c.args.rows.now) c.index-number.result.now ≡ Some next.0 = row_at (map row_tuple c.args.rows.now) c.args.places.now c.in_ok-numbers.numbers.items c.in-Some-found.from c.index-number.result.now next.0 c.in_ok-numbers.ensures next.1 c.index-number.ensures in
+    row_good c.args.rows.now c.index-number.result.now c.index-rows-number.result c.requires.rows (row_within c.args.rows.now c.index-number.result.now next.0 at) c.index-rows-number.is
 
 pub expand-requires-clause-stands : goal.expand-requires-clause-stands
 expand-requires-clause-stands c =
     let next = next_tuple c.loop-from.invariant.searched c.in-Some-found.from (sym c.found.ensures ∙ c.in-Some-found.is) in
-    let at : slice_get (map row_tuple c.args.rows.now) c.row.result ≡ Some next.0 = row_at (map row_tuple c.args.rows.now) c.args.places.now c.in-Some-found.from c.row.result next.0 c.requires.placing.placing next.1 c.row.ensures in
-    next.1 ∙ ap Some (sym (row_tuple_is c.args.rows.now c.row.result next.0 c.index-rows-row.result at c.index-rows-row.is))
+    let at : slice_get (map row_tuple c.args.rows.now) c.index-number.result.now ≡ Some next.0 = row_at (map row_tuple c.args.rows.now) c.args.places.now c.in_ok-numbers.numbers.items c.in-Some-found.from c.index-number.result.now next.0 c.in_ok-numbers.ensures next.1 c.index-number.ensures in
+    next.1 ∙ ap Some (sym (row_tuple_is c.args.rows.now c.index-number.result.now next.0 c.index-rows-number.result at c.index-rows-number.is))
 
 pub expand-requires-clause-rooms : goal.expand-requires-clause-rooms
 expand-requires-clause-rooms c =
     let next = next_tuple c.loop-from.invariant.searched c.in-Some-found.from (sym c.found.ensures ∙ c.in-Some-found.is) in
-    let at : slice_get (map row_tuple c.args.rows.now) c.row.result ≡ Some next.0 = row_at (map row_tuple c.args.rows.now) c.args.places.now c.in-Some-found.from c.row.result next.0 c.requires.placing.placing next.1 c.row.ensures in
-    subst (HasRoomsFor c.loop-from.image) (sym (row_tuple_is c.args.rows.now c.row.result next.0 c.index-rows-row.result at c.index-rows-row.is))
+    let at : slice_get (map row_tuple c.args.rows.now) c.index-number.result.now ≡ Some next.0 = row_at (map row_tuple c.args.rows.now) c.args.places.now c.in_ok-numbers.numbers.items c.in-Some-found.from c.index-number.result.now next.0 c.in_ok-numbers.ensures next.1 c.index-number.ensures in
+    subst (HasRoomsFor c.loop-from.image) (sym (row_tuple_is c.args.rows.now c.index-number.result.now next.0 c.index-rows-number.result at c.index-rows-number.is))
     (rooms_kept c.loop-from.invariant.rooms (rooms_in_level c.requires.rooms next.2))
 
 pub expand-requires-clause-cells : goal.expand-requires-clause-cells
@@ -66,25 +65,25 @@ expand-requires-clause-cells c = cells_of c.loop-from.invariant.searched
 pub returns-then-not-branch-clause-parents : goal.returns-then-not-branch-clause-parents
 returns-then-not-branch-clause-parents c =
     let next = next_tuple c.loop-from.invariant.searched c.in-Some-found.from (sym c.found.ensures ∙ c.in-Some-found.is) in
-    let at : slice_get (map row_tuple c.args.rows.now) c.row.result ≡ Some next.0 = row_at (map row_tuple c.args.rows.now) c.args.places.now c.in-Some-found.from c.row.result next.0 c.requires.placing.placing next.1 c.row.ensures in
-    missed_image c.args.root.now.plain (tuples_of c.args.places.now) c.in-Some-found.from (row_tuple c.index-rows-row.result)
-    (GoesOver (tuples_of c.args.places.now) c.in-Some-found.from c.loop-from.search c.expand.new.self) c.in_ok-expand.field-0
-    (next.1 ∙ ap Some (sym (row_tuple_is c.args.rows.now c.row.result next.0 c.index-rows-row.result at c.index-rows-row.is)))
+    let at : slice_get (map row_tuple c.args.rows.now) c.index-number.result.now ≡ Some next.0 = row_at (map row_tuple c.args.rows.now) c.args.places.now c.in_ok-numbers.numbers.items c.in-Some-found.from c.index-number.result.now next.0 c.in_ok-numbers.ensures next.1 c.index-number.ensures in
+    missed_image c.args.root.now.plain c.args.places.now c.in-Some-found.from (row_tuple c.index-rows-number.result)
+    (GoesOver c.args.places.now c.in-Some-found.from c.loop-from.search c.expand.new.self) c.in_ok-expand.field-0
+    (next.1 ∙ ap Some (sym (row_tuple_is c.args.rows.now c.index-number.result.now next.0 c.index-rows-number.result at c.index-rows-number.is)))
     c.if-not-branch.true c.in_ok-expand.ensures.over
 
 pub overflow_add-at : goal.overflow_add-at
 overflow_add-at c =
-    omega (arith, c.count.ensures, length-map c.args.places.now (λ (e : TupleData × ℕ). e.0), next_within c.loop-from.invariant.searched c.in-Some-found.from (sym c.found.ensures ∙ c.in-Some-found.is))
+    omega (arith, c.len.ensures.len, next_within c.loop-from.invariant.searched c.in-Some-found.from (sym c.found.ensures ∙ c.in-Some-found.is))
 
 pub loop-from-smaller : goal.loop-from-smaller
 loop-from-smaller c =
-    omega (arith, length-map c.args.places.now (λ (e : TupleData × ℕ). e.0), next_within c.loop-from.invariant.searched c.in-Some-found.from (sym c.found.ensures ∙ c.in-Some-found.is))
+    omega (arith, next_within c.loop-from.invariant.searched c.in-Some-found.from (sym c.found.ensures ∙ c.in-Some-found.is))
 
 pub loop-from-preserved : goal.loop-from-preserved
 loop-from-preserved c = record {
   rooms = rooms_then c.loop-from.invariant.rooms c.in_ok-expand.ensures.rooms;
-  searched = went_over (GoesOver (tuples_of c.args.places.now) c.in-Some-found.from c.loop-from.search c.expand.new.self)
-      ((u : TupleData) × IsAbsentImage (tuples_of c.args.places.now) (row_tuple c.index-rows-row.result) u) c.in_ok-expand.field-0 c.if-not-branch.false c.in_ok-expand.ensures.over
+  searched = went_over (GoesOver c.args.places.now c.in-Some-found.from c.loop-from.search c.expand.new.self)
+      ((u : TupleData) × IsAbsentImage c.args.places.now (row_tuple c.index-rows-number.result) u) c.in_ok-expand.field-0 c.if-not-branch.false c.in_ok-expand.ensures.over
       c.args.root.now.plain c.loop-from.at (sym c.found.ensures ∙ c.in-Some-found.is) c.loop-from.invariant.searched;
 }
 
@@ -92,5 +91,5 @@ pub returns-clause-parents : goal.returns-clause-parents
 returns-clause-parents c =
     let all : length c.loop-from.search.queue ≤ c.loop-from.at = past_from_none c.loop-from.search.queue c.loop-from.at (sym c.found.ensures ∙ c.in_default-found.is) in (
       level_whole c.loop-from.invariant.searched all c.requires.placing.sorted c.requires.within,
-      subst (AreParents c.args.root.now.plain (tuples_of c.args.places.now)) (sym c.into_parents.ensures) (parents_whole c.loop-from.invariant.searched all c.requires.placing.sorted c.requires.within),
+      subst (AreParents c.args.root.now.plain c.args.places.now) (sym c.into_parents.ensures) (parents_whole c.loop-from.invariant.searched all c.requires.placing.sorted c.requires.within),
     )

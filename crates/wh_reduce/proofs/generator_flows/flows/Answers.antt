@@ -1,10 +1,10 @@
 use Rattle.std.proofs.Common.{◌≡◌, ◌+◌, sym, ◌∙◌, subst, arith}
-use Rattle.wh_reduce.proofs.Flowing.{AreFlowsBelow, tight_network, flow_of_letter, flows_more}
+use Rattle.wh_reduce.proofs.Flowing.{AreFlowsBelow, flat_network, flow_of_letter, flows_more}
 use Rattle.wh_reduce.proofs.generator_flows.flows.Goals as goal
 
-pub flow_of-requires-clause-tight : goal.flow_of-requires-clause-tight
-flow_of-requires-clause-tight c =
-    tight_network c.graph-net.result c.args.tuple.now.plain c.rank.ensures.roomed.tuple (omega (arith, c.rank.ensures.rank, c.get-rank.ensures.greatest)) c.graph-net.ensures
+pub flow_of-requires-clause-flat : goal.flow_of-requires-clause-flat
+flow_of-requires-clause-flat c =
+    flat_network c.graph-net.result c.args.tuple.now.plain c.rank.ensures.roomed.tuple (omega (arith, c.rank.ensures.rank, c.get-rank.ensures.greatest)) c.graph-net.ensures
     c.of_index.result c.loop-generator.generator c.of_index.ensures (omega (arith, c.loop-generator-test.true, c.get-rank.ensures.same, c.rank.ensures.rank)) c.requires
 
 pub loop-generator-preserved : goal.loop-generator-preserved

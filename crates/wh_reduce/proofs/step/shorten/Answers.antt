@@ -1,10 +1,10 @@
 use Rattle.std.proofs.Common.{arith}
-use Rattle.wh_reduce.proofs.Stepped.{tight_more, found_move}
+use Rattle.wh_reduce.proofs.Stepped.{flat_more, found_move}
 use Rattle.wh_reduce.proofs.step.shorten.Goals as goal
 
 pub loop-generator-preserved : goal.loop-generator-preserved
 loop-generator-preserved c =
-    tight_more c.graph-net.result c.args.tuple.now.plain c.rank-rank.ensures.roomed.tuple (omega (arith, c.rank-rank.ensures.rank, c.get-generator-end.ensures.greatest)) c.graph-net.ensures
+    flat_more c.graph-net.result c.args.tuple.now.plain c.rank-rank.ensures.roomed.tuple (omega (arith, c.rank-rank.ensures.rank, c.get-generator-end.ensures.greatest)) c.graph-net.ensures
     c.loop-generator.generator c.of_index-letter.result c.of_index-letter.ensures (omega (arith, c.loop-generator-test.true, c.get-generator-end.ensures.same, c.rank-rank.ensures.rank))
     c.loop-generator.invariant c.in_default.ensures
 

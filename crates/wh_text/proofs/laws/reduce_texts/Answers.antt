@@ -1,4 +1,4 @@
-use Rattle.wh_text.proofs.TextLaws.{reads_reduce_texts}
+use Rattle.wh_text.proofs.ProblemLaws.{reads_reduce_texts}
 use Rattle.wh_text.proofs.laws.reduce_texts.Goals as goal
 
 pub returns : goal.returns

@@ -1,5 +1,5 @@
 use Rattle.std.proofs.Common.{◌≡◌, ◌++◌, map}
-use Rattle.wh_text.specs.FlowFields.{FlowData}
+use Rattle.wh_fields.specs.FlowFields.{FlowData}
 use Rattle.wh_text.proofs.side_reading.split_flows.Given as goal
 
 abbrev pub invariant-loop-line : goal.invariant-loop-line

@@ -1,41 +1,8 @@
-use Rattle.std.proofs.Common.{rules, ◌≡◌, length, map, ◌∷◌, [], Some, slice_get, sym, ap, ◌∙◌, subst, arith}
-use Rattle.std.proofs.lemmas.List.{length-append}
-use Rattle.wh_expand.specs.Rows.{row_tuple}
-use Rattle.wh_workers.specs.Explorations.{IsWhole, HasRoomFor}
-use Rattle.wh_workers.proofs.Exploring.{IsExploring, exploring_start, exploring_more, exploring_end, next_rank, next_room}
+use Rattle.std.proofs.Common.{length, ap, subst, true, arith}
+use Rattle.wh_workers.specs.Explorations.{Expands}
 use Rattle.wh_workers.proofs.one_thread.explore_one.Goals as goal
 
-pub expand-init : goal.expand-init
-expand-init g c =
-    let roomed = c.length.ensures.roomed in (
-      exploring_start c.args.root.now.plain c.args.limit c.new-known.result c.meet.new.self c.new-rows.result.items c.new-known.ensures c.in_ok-meet.ensures c.new-rows.ensures.items,
-      subst (λ t. HasRoomFor t c.args.root.now.plain) (sym c.in_ok-scratch.ensures.made)
-          (record { letters = omega (arith, c.length.ensures.length); words = omega (arith, c.count.ensures.count); short = roomed.tuple.short }),
-      omega (arith, ap length c.new-rows.ensures.items),
-    )
-
-pub level_moves-requires : goal.level_moves-requires
-level_moves-requires g c =
-    let next : slice_get c.expand.known (length c.expand.rows.items) ≡ Some c.tuple.result.now.plain = ap (slice_get c.expand.known) (search rules) ∙ c.tuple.ensures in
-    next_rank c.args.root.now.plain c.args.limit c.expand.known c.expand.rows.items c.tuple.result.now.plain c.requires c.expand.invariant.0 next
-
-pub meet_images-requires-clause-room : goal.meet_images-requires-clause-room
-meet_images-requires-clause-room g c =
-    let next : slice_get c.expand.known (length c.expand.rows.items) ≡ Some c.tuple.result.now.plain = ap (slice_get c.expand.known) (search rules) ∙ c.tuple.ensures in
-    (next_room c.args.root.now.plain c.args.limit c.expand.known c.expand.rows.items c.tuple.result.now.plain c.in_ok-row.row c.expand.scratch c.expand.invariant.0 next (ap (λ t. t.plain) c.in_ok-row.ensures.tuple)).0 c.expand.invariant.1
-
-pub expand-preserved : goal.expand-preserved
-expand-preserved g c =
-    let next : slice_get c.expand.known (length c.expand.rows.items) ≡ Some c.tuple.result.now.plain = ap (slice_get c.expand.known) (search rules) ∙ c.tuple.ensures in
-    let same : row_tuple c.in_ok-row.row ≡ c.tuple.result.now.plain = ap (λ t. t.plain) c.in_ok-row.ensures.tuple in (
-      subst (λ rows. IsExploring c.args.root.now.plain c.args.limit c.meet_images.new.known rows) (sym c.in_ok-push.ensures.items)
-          (exploring_more c.args.root.now.plain c.args.limit c.expand.known c.meet_images.new.known c.expand.rows.items c.in_ok-row.row c.tuple.result.now.plain c.expand.invariant.0
-          (search rules) next same c.in_ok-row.ensures.moves c.in_ok-meet_images.ensures.met),
-      (next_room c.args.root.now.plain c.args.limit c.expand.known c.expand.rows.items c.tuple.result.now.plain c.in_ok-row.row c.meet_images.new.scratch c.expand.invariant.0 next same).1 c.meet_images.ensures.room,
-      omega (arith, c.in_ok-row.ensures.step, c.expand.invariant.2, ap length c.in_ok-push.ensures.items, length-append c.expand.rows.items (c.in_ok-row.row ∷ [])),
-    )
-
-pub closed-requires-clause-whole : goal.closed-requires-clause-whole
-closed-requires-clause-whole g c =
-    subst (λ rows. IsWhole c.args.root.now.plain (map row_tuple rows)) (sym c.deref.ensures.value)
-    (exploring_end c.args.root.now.plain c.args.limit c.expand.known c.expand.rows.items c.len-in-expand.ensures.distinct c.expand.invariant.0 (search rules))
+pub returns-then-branch-clause-explored : goal.returns-then-branch-clause-explored
+returns-then-branch-clause-explored g c =
+    let found : Expands c.args.root.now.plain c.args.limit c.expand_all.new.rows.items true = subst (Expands c.args.root.now.plain c.args.limit c.expand_all.new.rows.items) c.if-branch.true c.in_ok-expand_all.ensures.expanded in
+    c.closed.ensures.explored c.args.limit (omega (arith, ap length c.deref.ensures.value, found.2))

@@ -1,5 +1,5 @@
 use Rattle.std.proofs.Common.{◌≡◌, ◌+◌, arith, ap, sym, ◌∙◌, ◌≢◌}
-use Rattle.wh_flow.proofs.NotedWays.{joined_near}
+use Rattle.wh_flow.proofs.NotedEdges.{neighbours_joined}
 use Rattle.wh_flow.specs.Nets.{edge_count, Net}
 use Rattle.wh_flow.proofs.NetEdges.{cell_few, net_added, count_added}
 use Rattle.wh_flow.proofs.net.Net.add_edge.Goals as goal
@@ -22,9 +22,9 @@ invariant_of-self c =
           (omega (arith, c.requires.x_of_rank, ap (λ (n : Net). n.rank) c.self.view_is, c.index-x.ensures.same))
           (omega (arith, c.requires.y_of_rank, ap (λ (n : Net). n.rank) c.self.view_is, c.index-y.ensures.same))
           (omega (arith, c.requires.few, ap (λ (n : Net). edge_count n.cells) c.self.view_is)) c.write_edge.ensures.size,
-      joined_near c.self.inside.near c.join.new.near c.join-2.new.near c.self.inside.cells c.write_edge.new.cells c.index-x.result c.index-y.result
+      neighbours_joined c.self.inside.neighbours c.add_neighbour.new.neighbours c.add_neighbour-2.new.neighbours c.self.inside.cells c.write_edge.new.cells c.index-x.result c.index-y.result
           (omega (arith, c.index-x.ensures.same, c.index-x.ensures.below)) (omega (arith, c.index-y.ensures.same, c.index-y.ensures.below)) apart
-          c.self.invariant.1 c.write_edge.ensures.edge c.join.ensures.here c.join.ensures.others c.join-2.ensures.here c.join-2.ensures.others,
+          c.self.invariant.1 c.write_edge.ensures.edge c.add_neighbour.ensures.here c.add_neighbour.ensures.others c.add_neighbour-2.ensures.here c.add_neighbour-2.ensures.others,
     )
 
 pub returns-clause-count : goal.returns-clause-count

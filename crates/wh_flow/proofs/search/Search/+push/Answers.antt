@@ -1,9 +1,9 @@
 use Rattle.std.proofs.Common.{◌≡◌, ◌≢◌, ℕ, ◌+◌, ◌<◌, true, false, arith, sym, ap, subst, ◌∙◌, refl, List, rules}
 use Rattle.wh_words.specs.LetterSets.{in_set}
-use Rattle.wh_flow.specs.Searches.{room, unseen, IsPushed, IsShifted, IsSearching, IsSearched}
-use Rattle.wh_flow.specs.Residuals.{Residual}
-use Rattle.wh_flow.proofs.Pushes.{pushed_on, room_kept}
-use Rattle.wh_flow.proofs.Ways.{way_leads}
+use Rattle.wh_flow.specs.Searches.{residual, unseen, IsPushed, IsShifted, IsSearching, IsSearched}
+use Rattle.wh_flow.specs.Residuals.{ResidualNet}
+use Rattle.wh_flow.proofs.Pushes.{pushed_on, residual_kept}
+use Rattle.wh_flow.proofs.Successors.{successor_leads}
 use Rattle.wh_flow.proofs.Searching.{searching_starts, searching_more, searching_ends, marked_grew, marked_fewer, grew_fewer, searched_fewer}
 use Rattle.wh_flow.proofs.search.Search.+push.Goals as goal
 
@@ -19,39 +19,39 @@ loop-y-init t c = record {
 
 pub loop-y-smaller : goal.loop-y-smaller
 loop-y-smaller t c = searched_fewer c.loop-y.self.seen c.push-d.new.self.seen c.in-Some.y
-    (way_leads c.args.residual.now.cap c.args.residual.now.flow c.ways-ways.result c.args.residual.now.from c.args.v c.in-Some.y c.ways-ways.ensures.ways c.in-Some.ensures.0 c.in-Some.ensures.1.0).0
+    (successor_leads c.args.residual.now.cap c.args.residual.now.flow c.successors-successors.result c.args.residual.now.from c.args.v c.in-Some.y c.successors-successors.ensures.successors c.in-Some.ensures.0 c.in-Some.ensures.1.0).0
     c.in-Some.ensures.1.1 (c.push-d.ensures.searched (omega (arith, c.if-d-gt0.false))).start c.push-d.ensures.grew
 
 pub push-d-requires : goal.push-d-requires
 push-d-requires t c =
-    let lead = way_leads c.args.residual.now.cap c.args.residual.now.flow c.ways-ways.result c.args.residual.now.from c.args.v c.in-Some.y c.ways-ways.ensures.ways c.in-Some.ensures.0 c.in-Some.ensures.1.0 in
-    let there : 0 < room c.loop-y.residual.cap c.loop-y.residual.flow c.loop-y.residual.from c.args.v c.in-Some.y =
-    subst (λ (r : Residual). 0 < room r.cap r.flow r.from c.args.v c.in-Some.y) (sym c.loop-y.invariant.same) lead.1 in
+    let lead = successor_leads c.args.residual.now.cap c.args.residual.now.flow c.successors-successors.result c.args.residual.now.from c.args.v c.in-Some.y c.successors-successors.ensures.successors c.in-Some.ensures.0 c.in-Some.ensures.1.0 in
+    let there : 0 < residual c.loop-y.residual.cap c.loop-y.residual.flow c.loop-y.residual.from c.args.v c.in-Some.y =
+    subst (λ (r : ResidualNet). 0 < residual r.cap r.flow r.from c.args.v c.in-Some.y) (sym c.loop-y.invariant.same) lead.1 in
     let within : c.in-Some.y < 52 = lead.0 in
     let fresh : in_set c.loop-y.self.seen c.in-Some.y ≡ false = c.in-Some.ensures.1.1 in
-    let some : 0 < c.lesser.result = c.lesser.ensures.some c.requires.some (omega (arith, there, c.room.ensures)) in
+    let some : 0 < c.lesser.result = c.lesser.ensures.some c.requires.some (omega (arith, there, c.capacity.ensures)) in
     search (rules, within, fresh, some)
 
 pub shift-requires-clause-fits : goal.shift-requires-clause-fits
 shift-requires-clause-fits t c =
-    let lead = way_leads c.args.residual.now.cap c.args.residual.now.flow c.ways-ways.result c.args.residual.now.from c.args.v c.in-Some.y c.ways-ways.ensures.ways c.in-Some.ensures.0 c.in-Some.ensures.1.0 in
-    let kept : room c.loop-y.residual.cap c.loop-y.residual.flow c.loop-y.residual.from c.args.v c.in-Some.y ≡ room c.loop-y.residual.cap c.push-d.new.residual.flow c.loop-y.residual.from c.args.v c.in-Some.y =
-    room_kept c.loop-y.residual.cap c.loop-y.residual.flow c.push-d.new.residual.flow c.loop-y.self.seen c.loop-y.residual.from c.args.v c.in-Some.y c.loop-y.self.sink c.push-d.result
+    let lead = successor_leads c.args.residual.now.cap c.args.residual.now.flow c.successors-successors.result c.args.residual.now.from c.args.v c.in-Some.y c.successors-successors.ensures.successors c.in-Some.ensures.0 c.in-Some.ensures.1.0 in
+    let kept : residual c.loop-y.residual.cap c.loop-y.residual.flow c.loop-y.residual.from c.args.v c.in-Some.y ≡ residual c.loop-y.residual.cap c.push-d.new.residual.flow c.loop-y.residual.from c.args.v c.in-Some.y =
+    residual_kept c.loop-y.residual.cap c.loop-y.residual.flow c.push-d.new.residual.flow c.loop-y.self.seen c.loop-y.residual.from c.args.v c.in-Some.y c.loop-y.self.sink c.push-d.result
     c.requires.v_within lead.0 c.loop-y.invariant.searching.start (c.push-d.ensures.pushed c.if-d-gt0.true) in
-    let there : room c.push-d.new.residual.cap c.push-d.new.residual.flow c.push-d.new.residual.from c.args.v c.in-Some.y ≡ room c.loop-y.residual.cap c.push-d.new.residual.flow c.loop-y.residual.from c.args.v c.in-Some.y =
-    ap (λ k. room k c.push-d.new.residual.flow c.push-d.new.residual.from c.args.v c.in-Some.y) c.push-d.ensures.cap ∙ ap (λ k. room c.loop-y.residual.cap c.push-d.new.residual.flow k c.args.v c.in-Some.y) c.push-d.ensures.from in
-    omega (arith, c.push-d.ensures.most, c.lesser.ensures.second, c.room.ensures, kept, there)
+    let there : residual c.push-d.new.residual.cap c.push-d.new.residual.flow c.push-d.new.residual.from c.args.v c.in-Some.y ≡ residual c.loop-y.residual.cap c.push-d.new.residual.flow c.loop-y.residual.from c.args.v c.in-Some.y =
+    ap (λ k. residual k c.push-d.new.residual.flow c.push-d.new.residual.from c.args.v c.in-Some.y) c.push-d.ensures.cap ∙ ap (λ k. residual c.loop-y.residual.cap c.push-d.new.residual.flow k c.args.v c.in-Some.y) c.push-d.ensures.from in
+    omega (arith, c.push-d.ensures.most, c.lesser.ensures.second, c.capacity.ensures, kept, there)
 
 pub returns-then-d-gt0-clause-grew : goal.returns-then-d-gt0-clause-grew
 returns-then-d-gt0-clause-grew t c = λ y b. c.push-d.ensures.grew y (c.loop-y.invariant.grew y b)
 
 pub returns-then-d-gt0-clause-pushed : goal.returns-then-d-gt0-clause-pushed
 returns-then-d-gt0-clause-pushed t c h =
-    let lead = way_leads c.args.residual.now.cap c.args.residual.now.flow c.ways-ways.result c.args.residual.now.from c.args.v c.in-Some.y c.ways-ways.ensures.ways c.in-Some.ensures.0 c.in-Some.ensures.1.0 in
-    let cap : c.push-d.new.residual.cap ≡ c.args.residual.now.cap = c.push-d.ensures.cap ∙ ap (λ (r : Residual). r.cap) c.loop-y.invariant.same in
-    let from : c.push-d.new.residual.from ≡ c.args.residual.now.from = c.push-d.ensures.from ∙ ap (λ (r : Residual). r.from) c.loop-y.invariant.same in
+    let lead = successor_leads c.args.residual.now.cap c.args.residual.now.flow c.successors-successors.result c.args.residual.now.from c.args.v c.in-Some.y c.successors-successors.ensures.successors c.in-Some.ensures.0 c.in-Some.ensures.1.0 in
+    let cap : c.push-d.new.residual.cap ≡ c.args.residual.now.cap = c.push-d.ensures.cap ∙ ap (λ (r : ResidualNet). r.cap) c.loop-y.invariant.same in
+    let from : c.push-d.new.residual.from ≡ c.args.residual.now.from = c.push-d.ensures.from ∙ ap (λ (r : ResidualNet). r.from) c.loop-y.invariant.same in
     let pushed : IsPushed c.args.residual.now.cap c.args.residual.now.flow c.push-d.new.residual.flow c.loop-y.self.seen c.args.residual.now.from c.in-Some.y c.args.self.now.sink c.push-d.result =
-    subst (λ (r : Residual). IsPushed r.cap r.flow c.push-d.new.residual.flow c.loop-y.self.seen r.from c.in-Some.y c.args.self.now.sink c.push-d.result) c.loop-y.invariant.same
+    subst (λ (r : ResidualNet). IsPushed r.cap r.flow c.push-d.new.residual.flow c.loop-y.self.seen r.from c.in-Some.y c.args.self.now.sink c.push-d.result) c.loop-y.invariant.same
     (subst (λ (k : ℕ). IsPushed c.loop-y.residual.cap c.loop-y.residual.flow c.push-d.new.residual.flow c.loop-y.self.seen c.loop-y.residual.from c.in-Some.y k c.push-d.result) c.loop-y.invariant.sink
     (c.push-d.ensures.pushed h)) in
     let shifted : IsShifted c.args.residual.now.cap c.push-d.new.residual.flow c.shift.new.self.flow c.args.residual.now.from c.args.v c.in-Some.y c.push-d.result =
@@ -63,9 +63,9 @@ returns-then-d-gt0-clause-pushed t c h =
 pub loop-y-preserved : goal.loop-y-preserved
 loop-y-preserved t c =
     let none : c.push-d.result ≡ 0 = omega (arith, c.if-d-gt0.false) in
-    let lead = way_leads c.args.residual.now.cap c.args.residual.now.flow c.ways-ways.result c.args.residual.now.from c.args.v c.in-Some.y c.ways-ways.ensures.ways c.in-Some.ensures.0 c.in-Some.ensures.1.0 in
+    let lead = successor_leads c.args.residual.now.cap c.args.residual.now.flow c.successors-successors.result c.args.residual.now.from c.args.v c.in-Some.y c.successors-successors.ensures.successors c.in-Some.ensures.0 c.in-Some.ensures.1.0 in
     let searched : IsSearched c.args.residual.now.cap c.args.residual.now.flow c.loop-y.self.seen c.push-d.new.self.seen c.args.residual.now.from c.in-Some.y c.args.self.now.sink =
-    subst (λ (r : Residual). IsSearched r.cap r.flow c.loop-y.self.seen c.push-d.new.self.seen r.from c.in-Some.y c.args.self.now.sink) c.loop-y.invariant.same
+    subst (λ (r : ResidualNet). IsSearched r.cap r.flow c.loop-y.self.seen c.push-d.new.self.seen r.from c.in-Some.y c.args.self.now.sink) c.loop-y.invariant.same
     (subst (λ (k : ℕ). IsSearched c.loop-y.residual.cap c.loop-y.residual.flow c.loop-y.self.seen c.push-d.new.self.seen c.loop-y.residual.from c.in-Some.y k) c.loop-y.invariant.sink (c.push-d.ensures.searched none)) in
     record {
       sink = c.push-d.ensures.sink ∙ c.loop-y.invariant.sink;
@@ -77,5 +77,5 @@ loop-y-preserved t c =
     }
 
 pub returns-clause-searched : goal.returns-clause-searched
-returns-clause-searched t c e = searching_ends c.args.residual.now.cap c.args.residual.now.flow c.args.self.now.seen c.args.residual.now.from c.args.v c.args.self.now.sink c.loop-y.self.seen c.ways-ways.result
-    c.ways-ways.ensures.ways c.in_default.ensures c.loop-y.invariant.searching
+returns-clause-searched t c e = searching_ends c.args.residual.now.cap c.args.residual.now.flow c.args.self.now.seen c.args.residual.now.from c.args.v c.args.self.now.sink c.loop-y.self.seen c.successors-successors.result
+    c.successors-successors.ensures.successors c.in_default.ensures c.loop-y.invariant.searching

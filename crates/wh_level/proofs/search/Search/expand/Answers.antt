@@ -3,7 +3,6 @@ use Rattle.std.proofs.lemmas.Option.{slice_get_within}
 use Rattle.wh_words.specs.Action.{act}
 use Rattle.wh_words.specs.Levels.{IsLevelMove}
 use Rattle.wh_expand.specs.Rows.{row_tuple}
-use Rattle.wh_level.specs.PlacedTuples.{tuples_of}
 use Rattle.wh_level.proofs.Expanding.{over_start, over_more, over_end}
 use Rattle.wh_level.proofs.Rooms.{rooms_itself, rooms_of_image, rooms_kept, item_of, level_at}
 use Rattle.wh_level.proofs.search.Search.expand.Goals as goal
@@ -11,7 +10,7 @@ use Rattle.wh_level.proofs.search.Search.expand.Goals as goal
 pub loop-m-init : goal.loop-m-init
 loop-m-init c = record {
   rooms = rooms_itself c.args.image.now;
-  over = over_start (tuples_of c.args.places.now) c.args.from (row_tuple c.args.row.now) c.args.row.now.moves c.args.self.now c.requires.stands c.requires.cells;
+  over = over_start c.args.places.now c.args.from (row_tuple c.args.row.now) c.args.row.now.moves c.args.self.now c.requires.stands c.requires.cells;
 }
 
 pub image_place-requires-clause-level : goal.image_place-requires-clause-level
@@ -31,21 +30,21 @@ returns-in-None-clause-rooms c = rooms_of_image (act (row_tuple c.args.row.now) 
 
 pub follow-requires-clause-parents : goal.follow-requires-clause-parents
 follow-requires-clause-parents c =
-    omega (arith, c.loop-m.invariant.over.cells.parents, slice_get_within (tuples_of c.args.places.now) c.in-Some.to (act (row_tuple c.args.row.now) c.m-item.result) c.in-Some.ensures.place)
+    omega (arith, c.loop-m.invariant.over.cells.parents, slice_get_within c.args.places.now c.in-Some.to (act (row_tuple c.args.row.now) c.m-item.result) c.in-Some.ensures.place)
 
 pub follow-requires-clause-seen : goal.follow-requires-clause-seen
 follow-requires-clause-seen c =
-    omega (arith, c.loop-m.invariant.over.cells.seen, slice_get_within (tuples_of c.args.places.now) c.in-Some.to (act (row_tuple c.args.row.now) c.m-item.result) c.in-Some.ensures.place)
+    omega (arith, c.loop-m.invariant.over.cells.seen, slice_get_within c.args.places.now c.in-Some.to (act (row_tuple c.args.row.now) c.m-item.result) c.in-Some.ensures.place)
 
 pub loop-m-preserved : goal.loop-m-preserved
 loop-m-preserved c = record {
   rooms = rooms_of_image (act (row_tuple c.args.row.now) c.m-item.result) c.loop-m.invariant.rooms c.image_place.ensures.image;
-  over = over_more (tuples_of c.args.places.now) c.args.from (row_tuple c.args.row.now) c.args.row.now.moves c.args.self.now c.loop-m.self c.follow.new.self c.loop-m.m-index c.m-item.result c.in-Some.to
+  over = over_more c.args.places.now c.args.from (row_tuple c.args.row.now) c.args.row.now.moves c.args.self.now c.loop-m.self c.follow.new.self c.loop-m.m-index c.m-item.result c.in-Some.to
       c.requires.row (omega (arith, ap length c.items-m-items.ensures)) (item_of c.items-m-items.result.now c.args.row.now.moves c.loop-m.m-index c.m-item.result c.items-m-items.ensures c.m-item.is)
       c.in-Some.ensures.place c.in_ok-follow-in-Some.ensures c.loop-m.invariant.over;
 }
 
 pub returns-clause-over : goal.returns-clause-over
 returns-clause-over c =
-    over_end (tuples_of c.args.places.now) c.args.from (row_tuple c.args.row.now) c.args.row.now.moves c.args.self.now c.loop-m.self c.loop-m.m-index c.requires.row
+    over_end c.args.places.now c.args.from (row_tuple c.args.row.now) c.args.row.now.moves c.args.self.now c.loop-m.self c.loop-m.m-index c.requires.row
     (omega (arith, ap length c.items-m-items.ensures)) c.loop-m.invariant.over

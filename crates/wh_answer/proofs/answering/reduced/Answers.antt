@@ -1,0 +1,13 @@
+use Rattle.std.proofs.Common.{◌≤◌, rules, ap}
+use Rattle.wh_words.specs.Tuples.{Tuple}
+use Rattle.wh_text.specs.declared.answer.Answer.TheVariants as answers
+use Rattle.wh_text.specs.Problems.ProblemData.{reduce}
+use Rattle.wh_answer.proofs.Valid.{answers_valid}
+use Rattle.wh_answer.proofs.answering.reduced.Goals as goal
+
+pub returns-clause-valid : goal.returns-clause-valid
+returns-clause-valid c =
+    let least : 1 ≤ c.args.tuple.now.plain.rank = search rules in
+    let low : c.args.tuple.now.plain.rank ≤ 26 = search rules in
+    answers_valid 0 (reduce c.args.tuple.now.plain) (answers.Reduce c.in_ok-copy.field-0 c.in_ok-side_of.field-0) (c.rank.ensures.roomed.tuple, least, low)
+    (ap (λ (u : Tuple). u.plain) c.in_ok-copy.ensures.same, c.in_ok-side_of.ensures.side c.args.tuple.now.plain c.in_ok-trace.ensures.trace)

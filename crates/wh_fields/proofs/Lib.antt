@@ -1,0 +1,13 @@
+pub mod WordReadings
+pub mod WordLaws
+pub mod TupleLaws
+pub mod LetterMasks
+pub mod PairTables
+pub mod RepeatedTexts
+pub mod SetTexts
+pub mod ItemRuns
+pub mod ShownFields
+pub mod ReadMoves
+pub mod ReadFlows
+pub mod MoveLaws
+pub mod FlowLaws

@@ -1,0 +1,8 @@
+use Rattle.std.proofs.Common.{◌≡◌, drop}
+use Rattle.wh_lines.specs.Readings.{items_at}
+use Rattle.wh_fields.specs.Words.{word_at}
+use Rattle.wh_lines.proofs.ItemReadings.{with_front}
+use Rattle.wh_fields.proofs.tuple_reading.words.Given as goal
+
+abbrev pub invariant-loop-field : goal.invariant-loop-field
+invariant-loop-field l = with_front l.out.items (items_at (word_at l.n l.line) (drop l.field-index l.fields)) ≡ items_at (word_at l.n l.line) l.fields

@@ -1,0 +1,27 @@
+//! Laws of fields, each the contract of an empty function.
+ghost use Rattle.wh_fields.specs.Laws.{ReadsLetters, ReadsWords, NamesTheFirstBadLetter, ReadsMoves, ReadsFlows};
+
+/// Letters are read exactly from their bytes.
+pub fn letters()
+    ensures { ReadsLetters }
+{}
+
+/// A word is read exactly from its text.
+pub fn words()
+    ensures { ReadsWords }
+{}
+
+/// A refusal of a letter names the leftmost byte that is none.
+pub fn first_bad_letter()
+    ensures { NamesTheFirstBadLetter }
+{}
+
+/// A move is read exactly from the fields that spell it.
+pub fn moves()
+    ensures { ReadsMoves }
+{}
+
+/// A flow is read exactly from the fields that tell it.
+pub fn flows()
+    ensures { ReadsFlows }
+{}

@@ -1,5 +1,0 @@
-use Rattle.wh_moves.proofs.ActedLists.{IsOnTheWay}
-use Rattle.wh_moves.proofs.list_action.act_all.Given as goal
-
-abbrev pub invariant-loop-made : goal.invariant-loop-made
-invariant-loop-made l = IsOnTheWay l.tuple.plain l.list l.made l.end l.spare

@@ -1,6 +1,0 @@
-use Rattle.std.proofs.Common.{◌≡◌, ◌++◌}
-use Rattle.wh_text.specs.FieldTexts.{set_below}
-use Rattle.wh_text.proofs.field_printer.push_set.Given as goal
-
-abbrev pub invariant-loop-index : goal.invariant-loop-index
-invariant-loop-index l = l.out.items ≡ l.initial.out.items ++ set_below l.set l.index

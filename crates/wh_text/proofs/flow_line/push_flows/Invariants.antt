@@ -1,6 +1,0 @@
-use Rattle.std.proofs.Common.{◌≡◌, ◌*◌, ◌++◌, [], get_or}
-use Rattle.wh_text.specs.FlowTexts.{texts_below, flow_text}
-use Rattle.wh_text.proofs.flow_line.push_flows.Given as goal
-
-abbrev pub invariant-loop-generator : goal.invariant-loop-generator
-invariant-loop-generator l = l.out.items ≡ l.initial.out.items ++ texts_below (λ g. flow_text l.rank (2 * g) (get_or l.flows g [])) l.generator

@@ -1,6 +1,0 @@
-use Rattle.std.proofs.Common.{◌≡◌, ◌*◌, ◌++◌}
-use Rattle.wh_text.specs.FlowTexts.{texts_below, pair_field}
-use Rattle.wh_text.proofs.flow_line.push_pairs.Given as goal
-
-abbrev pub invariant-loop-x : goal.invariant-loop-x
-invariant-loop-x l = l.out.items ≡ l.initial.out.items ++ texts_below (λ x. texts_below (λ y. pair_field l.flow x y) (2 * l.rank)) l.x

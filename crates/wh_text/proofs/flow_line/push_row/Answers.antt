@@ -1,9 +1,0 @@
-use Rattle.std.proofs.Common.{ap}
-use Rattle.wh_text.specs.FlowTexts.{pair_field}
-use Rattle.wh_text.proofs.RepeatedTexts.{texts_more}
-use Rattle.wh_text.proofs.flow_line.push_row.Goals as goal
-
-pub loop-y-preserved : goal.loop-y-preserved
-loop-y-preserved c =
-    texts_more (λ y. pair_field c.args.flow.now c.args.x y) c.loop-y.y (pair_field c.args.flow.now c.args.x c.of_index.result) c.loop-y.out.items c.push_pair.new.out.items c.args.out.now.items
-    (ap (λ y. pair_field c.args.flow.now c.args.x y) c.of_index.ensures) c.in_ok-push_pair.ensures c.loop-y.invariant

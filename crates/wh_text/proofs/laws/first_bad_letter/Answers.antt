@@ -1,5 +1,0 @@
-use Rattle.wh_text.proofs.WordLaws.{first_bad_letter}
-use Rattle.wh_text.proofs.laws.first_bad_letter.Goals as goal
-
-pub returns : goal.returns
-returns c = first_bad_letter

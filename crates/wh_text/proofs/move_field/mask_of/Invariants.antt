@@ -1,6 +1,0 @@
-use Rattle.std.proofs.Common.{◌≡◌, drop}
-use Rattle.wh_text.specs.MoveFields.{set_from}
-use Rattle.wh_text.proofs.move_field.mask_of.Given as goal
-
-abbrev pub invariant-loop-byte : goal.invariant-loop-byte
-invariant-loop-byte l = set_from l.n l.mask l.least (drop l.byte-index l.bytes) ≡ set_from l.n 0 0 l.bytes

@@ -1,6 +1,0 @@
-use Rattle.std.proofs.Common.{◌≡◌, map, take}
-use Rattle.wh_words.specs.Words.{free_reduction}
-use Rattle.wh_text.proofs.tuple_line.reduced.Given as goal
-
-abbrev pub invariant-loop-word : goal.invariant-loop-word
-invariant-loop-word l = l.out.items ≡ map free_reduction (take l.word-index l.words)

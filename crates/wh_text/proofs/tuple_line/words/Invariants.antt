@@ -1,8 +1,0 @@
-use Rattle.std.proofs.Common.{◌≡◌, drop}
-use Rattle.wh_text.specs.TupleLines.{items_at}
-use Rattle.wh_text.specs.Spellings.{word_at}
-use Rattle.wh_text.proofs.Items.{with_front}
-use Rattle.wh_text.proofs.tuple_line.words.Given as goal
-
-abbrev pub invariant-loop-field : goal.invariant-loop-field
-invariant-loop-field l = with_front l.out.items (items_at (word_at l.n l.line) (drop l.field-index l.fields)) ≡ items_at (word_at l.n l.line) l.fields

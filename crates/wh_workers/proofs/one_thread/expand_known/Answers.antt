@@ -1,0 +1,40 @@
+use Rattle.std.proofs.Common.{rules, ◌≡◌, length, ◌∷◌, [], Some, slice_get, sym, ap, ◌∙◌, subst, arith}
+use Rattle.std.proofs.lemmas.List.{length-append}
+use Rattle.wh_expand.specs.Rows.{row_tuple}
+use Rattle.wh_workers.proofs.Exploring.{IsExploring, exploring_start, exploring_more, exploring_end, next_rank, next_room}
+use Rattle.wh_workers.proofs.one_thread.expand_known.Goals as goal
+
+pub expand-init : goal.expand-init
+expand-init g c = (
+  exploring_start c.args.root.now.plain c.args.limit c.args.known.now c.add.new.self c.args.rows.now.items (ap length c.requires.none_known) c.in_ok-add.ensures.added c.requires.none_expanded,
+  c.requires.room,
+  omega (arith, ap length c.requires.none_expanded),
+)
+
+pub level_moves-requires : goal.level_moves-requires
+level_moves-requires g c =
+    let next : slice_get c.expand.known (length c.expand.rows.items) ≡ Some c.tuple.result.now.plain = ap (slice_get c.expand.known) (search rules) ∙ c.tuple.ensures in
+    next_rank c.args.root.now.plain c.args.limit c.expand.known c.expand.rows.items c.tuple.result.now.plain c.requires.rank c.expand.invariant.0 next
+
+pub meet_images-requires-clause-room : goal.meet_images-requires-clause-room
+meet_images-requires-clause-room g c =
+    let next : slice_get c.expand.known (length c.expand.rows.items) ≡ Some c.tuple.result.now.plain = ap (slice_get c.expand.known) (search rules) ∙ c.tuple.ensures in
+    (next_room c.args.root.now.plain c.args.limit c.expand.known c.expand.rows.items c.tuple.result.now.plain c.in_ok-row.row c.expand.scratch c.expand.invariant.0 next (ap (λ t. t.plain) c.in_ok-row.ensures.tuple)).0 c.expand.invariant.1
+
+pub expand-preserved : goal.expand-preserved
+expand-preserved g c =
+    let next : slice_get c.expand.known (length c.expand.rows.items) ≡ Some c.tuple.result.now.plain = ap (slice_get c.expand.known) (search rules) ∙ c.tuple.ensures in
+    let same : row_tuple c.in_ok-row.row ≡ c.tuple.result.now.plain = ap (λ t. t.plain) c.in_ok-row.ensures.tuple in (
+      subst (λ rows. IsExploring c.args.root.now.plain c.args.limit c.meet_images.new.known rows) (sym c.in_ok-push.ensures.items)
+          (exploring_more c.args.root.now.plain c.args.limit c.expand.known c.meet_images.new.known c.expand.rows.items c.in_ok-row.row c.tuple.result.now.plain c.expand.invariant.0
+          (search rules) next same c.in_ok-row.ensures.moves c.in_ok-meet_images.ensures.met),
+      (next_room c.args.root.now.plain c.args.limit c.expand.known c.expand.rows.items c.tuple.result.now.plain c.in_ok-row.row c.meet_images.new.scratch c.expand.invariant.0 next same).1 c.meet_images.ensures.room,
+      omega (arith, c.in_ok-row.ensures.step, c.expand.invariant.2, ap length c.in_ok-push.ensures.items, length-append c.expand.rows.items (c.in_ok-row.row ∷ [])),
+    )
+
+pub returns-clause-expanded : goal.returns-clause-expanded
+returns-clause-expanded g c = (
+  c.expand.invariant.0.rows_are,
+  exploring_end c.args.root.now.plain c.args.limit c.expand.known c.expand.rows.items c.len-in-expand.ensures.distinct c.expand.invariant.0 (search rules),
+  c.expand.invariant.0.few,
+)

@@ -1,0 +1,62 @@
+#!/usr/bin/env python3
+"""Makes the cases of the examples in the table of runs.
+
+    example_cases.py write     puts the examples and their stored answers at the end of crates/wh_tests_rows/stdin and stdout
+    example_cases.py compare   compares the examples with the cases that stand there
+
+An example is a problem in examples/NAME.txt, with its answer in examples/answers/NAME.txt. The gate compares what the
+program writes with the table. So where the table and the examples agree, the stored answers are what the program writes.
+"""
+
+import sys
+
+import table
+from reference import status_of
+
+EXAMPLES = table.ROOT / "examples"
+LIMITS = {"planes": 1000}
+
+
+def words(name, problem):
+    """The words of the command line that an example is for: two tuples are to be decided."""
+    tuples = sum(line.startswith("tuple") for line in problem.splitlines())
+    command = "decide" if tuples == 2 else "reduce"
+    return f"{command} --limit {LIMITS[name]}" if name in LIMITS else command
+
+
+def cases():
+    for path in sorted(EXAMPLES.glob("*.txt")):
+        problem = path.read_text()
+        answer = (EXAMPLES / "answers" / path.name).read_text()
+        yield table.Case(words(path.stem, problem), problem.encode(), f"status {status_of(answer)}\n{answer}")
+
+
+def write():
+    made = list(cases())
+    table.write(table.parts()._replace(examples=made))
+    print(f"{len(made)} examples written")
+    return True
+
+
+def compare():
+    made, stand = list(cases()), table.parts().examples
+    agree = made == stand
+    print(f"{len(made)} examples " + ("stand in the table" if agree else "and the table differ"))
+    return agree
+
+
+MODES = {"write": write, "compare": compare}
+
+
+def main(words):
+    if words == ["--help"]:
+        print(__doc__)
+        return 0
+    if len(words) != 1 or words[0] not in MODES:
+        print(__doc__, file=sys.stderr)
+        return 2
+    return 0 if MODES[words[0]]() else 1
+
+
+if __name__ == "__main__":
+    sys.exit(main(sys.argv[1:]))
