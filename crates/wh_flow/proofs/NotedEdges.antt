@@ -1,18 +1,18 @@
 -- The masks of letters stay right where numbers change between two letters, and both bits between them are noted.
-use Rattle.std.proofs.Common.{◌≡◌, ◌≢◌, ℕ, ◌+◌, ◌-◌, ◌*◌, ◌<◌, ◌≤◌, Bool, true, false, cond, refl, sym, ap, ◌∙◌, subst, inl, inr, ◌⊎◌, arith, List, length, length-set, get_or, replicate}
-use Rattle.std.specs.Prelude.{ltb, leb, ◌&&◌, slice_set}
+use Rattle.std.proofs.Common.{◌≡◌, ◌≢◌, ℕ, ◌+◌, ◌-◌, ◌<◌, ◌≤◌, Bool, true, false, cond, refl, sym, ap, ◌∙◌, subst, inl, inr, ◌⊎◌, arith, List, length-set, get_or, replicate}
+use Rattle.std.specs.Prelude.{ltb, leb, ◌&&◌}
 use Rattle.std.proofs.lemmas.Bool.{cases_eq, cases_lt, true≢false}
 use Rattle.std.proofs.lemmas.Bool.Decides.{nat_tests}
 use Rattle.wh_words.specs.LetterSets.{in_set}
-use Rattle.wh_words.specs.Flows.{IsWithin, place}
-use Rattle.wh_flow.specs.Nets.{cell}
+use Rattle.wh_words.specs.Flows.{place}
+use Rattle.wh_flow.specs.Tables.{cell, zero_table, with_cell}
 use Rattle.wh_flow.specs.Searches.{residual, IsShifted}
-use Rattle.wh_flow.specs.Residuals.{IsResidualNet, IsSameBut, AreNeighbours}
-use Rattle.std.proofs.lemmas.List.{length-replicate, get_or-replicate}
+use Rattle.wh_flow.specs.Residuals.{IsResidualNet, IsLow, IsSameBut, AreNeighbours}
+use Rattle.std.proofs.lemmas.List.{get_or-replicate}
 use Rattle.wh_flow.proofs.NetEdges.{joined, joined-there, joined-back, joined-other}
 use Rattle.wh_flow.proofs.Rounds.{zero_flow}
 use Rattle.wh_flow.proofs.Successors.{set_none}
-use Rattle.wh_flow.proofs.Cells.{cell-other, cell-zero, place-apart}
+use Rattle.wh_flow.proofs.Cells.{cell-other, cell-zero, zero-table, place-apart}
 use Rattle.wh_flow.proofs.Pushes.{lowered}
 
 pair_cases : (a b p q : ℕ) → ((a ≡ p) × (b ≡ q)) ⊎ ((a ≢ p) ⊎ (b ≢ q))
@@ -69,7 +69,7 @@ noted old mid new r s x y hx hy has agree here others there rest v h z k = back 
 
 -- ---- what may still flow, where numbers change
 residual-at : ℕ → ℕ → ℕ → ℕ → ℕ → ℕ → ℕ
-residual-at from x y back there c = cond (leb from (52 * y + x) && ltb 0 back) back (cond (leb from (52 * x + y)) (c - there) 0)
+residual-at from x y back there c = cond (leb from (place y x) && ltb 0 back) back (cond (leb from (place x y)) (c - there) 0)
 
 pub shift_agrees : (cap f g : List ℕ) (from x y : ℕ) → x < 52 → y < 52 → IsSameBut f g x y → AgreeBut (residual cap f from) (residual cap g from) x y
 unfolding residual-at
@@ -80,17 +80,17 @@ shift_agrees cap f g from x y hx hy kept u v h i a b =
 leb-next : (k p : ℕ) → p ≢ k → leb k p ≡ leb (k + 1) p
 leb-next k p e = grind (arith, nat_tests)
 
-pub left_out_agrees : (cap f : List ℕ) (from x y : ℕ) → x < 52 → y < 52 → from ≡ 52 * x + y → AgreeBut (residual cap f from) (residual cap f (from + 1)) x y
+pub left_out_agrees : (cap f : List ℕ) (from x y : ℕ) → x < 52 → y < 52 → from ≡ place x y → AgreeBut (residual cap f from) (residual cap f (from + 1)) x y
 left_out_agrees cap f from x y hx hy e u v h i a b =
-    ap (λ k. cond (k && ltb 0 (cell f v u)) (cell f v u) (cond (leb from (52 * u + v)) (cell cap u v - cell f u v) 0))
-    (leb-next from (52 * v + u) (λ k. place-apart x y v u hy h (swapped b) (k ∙ e)))
-    ∙ ap (λ k. cond (leb (from + 1) (52 * v + u) && ltb 0 (cell f v u)) (cell f v u) (cond k (cell cap u v - cell f u v) 0))
-    (leb-next from (52 * u + v) (λ k. place-apart x y u v hy i a (k ∙ e)))
+    ap (λ k. cond (k && ltb 0 (cell f v u)) (cell f v u) (cond (leb from (place u v)) (cell cap u v - cell f u v) 0))
+    (leb-next from (place v u) (λ k. place-apart x y v u hy h (swapped b) (k ∙ e)))
+    ∙ ap (λ k. cond (leb (from + 1) (place v u) && ltb 0 (cell f v u)) (cell f v u) (cond k (cell cap u v - cell f u v) 0))
+    (leb-next from (place u v) (λ k. place-apart x y u v hy i a (k ∙ e)))
 
-pub lower_agrees : (cap f : List ℕ) (from x y m : ℕ) → 52 * x + y < from → (u v : ℕ) → residual cap f from u v ≡ residual cap (slice_set f (52 * x + y) m) from u v
+pub lower_agrees : (cap f : List ℕ) (from x y m : ℕ) → place x y < from → (u v : ℕ) → residual cap f from u v ≡ residual cap (with_cell f x y m) from u v
 lower_agrees cap f from x y m l u v = back (cases_eq (place v u) (place x y)) ∙ forth (cases_eq (place u v) (place x y))
   where
-    past : (k : ℕ) → k ≡ 52 * x + y → leb from k ≡ false
+    past : (k : ℕ) → k ≡ place x y → leb from k ≡ false
     past k e = grind (arith, nat_tests)
 
     closed : (b : Bool) (p q rest : ℕ) → b ≡ false → cond (b && ltb 0 p) p rest ≡ cond (b && ltb 0 q) q rest
@@ -102,56 +102,56 @@ lower_agrees cap f from x y m l u v = back (cases_eq (place v u) (place x y)) �
     shut true p q e = absurd (true≢false e)
 
     back : (place v u ≡ place x y) ⊎ (place v u ≢ place x y) → residual cap f from u v
-        ≡ cond (leb from (52 * v + u) && ltb 0 (cell (slice_set f (52 * x + y) m) v u)) (cell (slice_set f (52 * x + y) m) v u) (cond (leb from (52 * u + v)) (cell cap u v - cell f u v) 0)
-    back (inl e) = closed (leb from (52 * v + u)) (cell f v u) (cell (slice_set f (52 * x + y) m) v u) (cond (leb from (52 * u + v)) (cell cap u v - cell f u v) 0) (past (52 * v + u) e)
-    back (inr e) = ap (λ k. cond (leb from (52 * v + u) && ltb 0 k) k (cond (leb from (52 * u + v)) (cell cap u v - cell f u v) 0)) (sym (cell-other f x y m v u e))
+        ≡ cond (leb from (place v u) && ltb 0 (cell (with_cell f x y m) v u)) (cell (with_cell f x y m) v u) (cond (leb from (place u v)) (cell cap u v - cell f u v) 0)
+    back (inl e) = closed (leb from (place v u)) (cell f v u) (cell (with_cell f x y m) v u) (cond (leb from (place u v)) (cell cap u v - cell f u v) 0) (past (place v u) e)
+    back (inr e) = ap (λ k. cond (leb from (place v u) && ltb 0 k) k (cond (leb from (place u v)) (cell cap u v - cell f u v) 0)) (sym (cell-other f x y m v u e))
 
     forth : (place u v ≡ place x y) ⊎ (place u v ≢ place x y)
-        → cond (leb from (52 * v + u) && ltb 0 (cell (slice_set f (52 * x + y) m) v u)) (cell (slice_set f (52 * x + y) m) v u) (cond (leb from (52 * u + v)) (cell cap u v - cell f u v) 0)
-        ≡ residual cap (slice_set f (52 * x + y) m) from u v
-    forth (inl e) = ap (λ k. cond (leb from (52 * v + u) && ltb 0 (cell (slice_set f (52 * x + y) m) v u)) (cell (slice_set f (52 * x + y) m) v u) k)
-        (shut (leb from (52 * u + v)) (cell cap u v - cell f u v) (cell cap u v - cell (slice_set f (52 * x + y) m) u v) (past (52 * u + v) e))
-    forth (inr e) = ap (λ k. cond (leb from (52 * v + u) && ltb 0 (cell (slice_set f (52 * x + y) m) v u)) (cell (slice_set f (52 * x + y) m) v u) (cond (leb from (52 * u + v)) (cell cap u v - k) 0))
+        → cond (leb from (place v u) && ltb 0 (cell (with_cell f x y m) v u)) (cell (with_cell f x y m) v u) (cond (leb from (place u v)) (cell cap u v - cell f u v) 0)
+        ≡ residual cap (with_cell f x y m) from u v
+    forth (inl e) = ap (λ k. cond (leb from (place v u) && ltb 0 (cell (with_cell f x y m) v u)) (cell (with_cell f x y m) v u) k)
+        (shut (leb from (place u v)) (cell cap u v - cell f u v) (cell cap u v - cell (with_cell f x y m) u v) (past (place u v) e))
+    forth (inr e) = ap (λ k. cond (leb from (place v u) && ltb 0 (cell (with_cell f x y m) v u)) (cell (with_cell f x y m) v u) (cond (leb from (place u v)) (cell cap u v - k) 0))
         (sym (cell-other f x y m u v e))
 
 -- Less at a pair that was left out.
-pub lowered_residual : (cap f masks : List ℕ) (from x y d : ℕ) → x < 52 → y < 52 → 52 * x + y < from → d ≤ cell f x y → IsResidualNet cap f from masks
-    → IsResidualNet cap (slice_set f (52 * x + y) (cell f x y - d)) from masks
+pub lowered_residual : (cap f masks : List ℕ) (from x y d : ℕ) → x < 52 → y < 52 → place x y < from → d ≤ cell f x y → IsResidualNet cap f from masks
+    → IsResidualNet cap (with_cell f x y (cell f x y - d)) from masks
 lowered_residual cap f masks from x y d hx hy l few old = record {
-  cap_size = old.cap_size;
-  flow_size = length-set f (52 * x + y) (cell f x y - d) ∙ old.flow_size;
+  low = old.low;
+  table = length-set f (place x y) (cell f x y - d) ∙ old.table;
   within = less.within;
   successors = λ v h z k. old.successors v h z k ∙ ap (λ m. ltb z 52 && ltb 0 m) (lower_agrees cap f from x y (cell f x y - d) l v z);
 }
   where
-    less : IsShifted cap f (slice_set f (52 * x + y) (cell f x y - d)) (52 * x + y) y x d
-    less = lowered cap f (52 * x + y) y x d old.flow_size hy hx old.within few (omega arith)
+    less : IsShifted cap f (with_cell f x y (cell f x y - d)) (place x y) y x d
+    less = lowered cap f (place x y) y x d old.table hy hx old.within few (omega arith)
 
 -- ---- where nothing flows
 rest-at : (n m c : ℕ) → cond (leb 0 n && ltb 0 0) 0 (cond (leb 0 m) (c - 0) 0) ≡ c
 rest-at n m c = grind (arith, nat_tests)
 
-residual_at_rest : (cap : List ℕ) (v y : ℕ) → v < 52 → y < 52 → residual cap (replicate 2704 0) 0 v y ≡ cell cap v y
+residual_at_rest : (cap : List ℕ) (v y : ℕ) → v < 52 → y < 52 → residual cap zero_table 0 v y ≡ cell cap v y
 unfolding residual-at
 residual_at_rest cap v y h i =
-    ap (λ k. residual-at 0 v y k (cell (replicate 2704 0) v y) (cell cap v y)) (cell-zero y v i h)
+    ap (λ k. residual-at 0 v y k (cell zero_table v y) (cell cap v y)) (cell-zero y v i h)
     ∙ ap (λ k. residual-at 0 v y 0 k (cell cap v y)) (cell-zero v y h i)
-    ∙ rest-at (52 * y + v) (52 * v + y) (cell cap v y)
+    ∙ rest-at (place y v) (place v y) (cell cap v y)
 
-pub residual_without_flow : (cap near : List ℕ) → length cap ≡ 2704 → AreNeighbours near cap → IsResidualNet cap (replicate 2704 0) 0 near
-residual_without_flow cap near size has = record {
-  cap_size = size;
-  flow_size = length-replicate {A = ℕ} 2704 0;
+pub residual_without_flow : (cap masks : List ℕ) → IsLow cap → AreNeighbours masks cap → IsResidualNet cap zero_table 0 masks
+residual_without_flow cap masks low has = record {
+  low = low;
+  table = zero-table;
   within = (zero_flow (cell cap) 0 0).within;
   successors = λ v h y k. has v h y k ∙ elim (cases_lt y 52) [
     | inl l ↦ ap (λ m. ltb y 52 && ltb 0 m) (sym (residual_at_rest cap v y h l))
-    | inr l ↦ past_and y (ltb 0 (cell cap v y)) (ltb 0 (residual cap (replicate 2704 0) 0 v y)) (omega (arith, l))
+    | inr l ↦ past_and y (ltb 0 (cell cap v y)) (ltb 0 (residual cap zero_table 0 v y)) (omega (arith, l))
   ];
 }
 
 -- ---- the letters that edges join
-pub no_neighbours : AreNeighbours (replicate 52 0) (replicate 2704 0)
-no_neighbours v h y k = ap (λ m. in_set m y) (get_or-replicate 52 v 0 0 h) ∙ set_none (cell (replicate 2704 0) v) 0 refl y k ∙ none (cases_lt y 52)
+pub no_neighbours : AreNeighbours (replicate 52 0) zero_table
+no_neighbours v h y k = ap (λ m. in_set m y) (get_or-replicate 52 v 0 0 h) ∙ set_none (cell zero_table v) 0 refl y k ∙ none (cases_lt y 52)
   where
     empty : (a b : Bool) → (a && ltb 0 0) ≡ (b && ltb 0 0)
     empty a b = grind (arith, nat_tests)
@@ -159,9 +159,9 @@ no_neighbours v h y k = ap (λ m. in_set m y) (get_or-replicate 52 v 0 0 h) ∙ 
     past : (c : Bool) → 52 ≤ y → (ltb y 0 && c) ≡ (ltb y 52 && c)
     past c l = grind (arith, nat_tests)
 
-    none : (y < 52) ⊎ (52 ≤ y) → (ltb y 0 && ltb 0 (cell (replicate 2704 0) v y)) ≡ (ltb y 52 && ltb 0 (cell (replicate 2704 0) v y))
+    none : (y < 52) ⊎ (52 ≤ y) → (ltb y 0 && ltb 0 (cell zero_table v y)) ≡ (ltb y 52 && ltb 0 (cell zero_table v y))
     none (inl l) = subst (λ (m : ℕ). (ltb y 0 && ltb 0 m) ≡ (ltb y 52 && ltb 0 m)) (sym (cell-zero v y h l)) (empty (ltb y 0) (ltb y 52))
-    none (inr l) = past (ltb 0 (cell (replicate 2704 0) v y)) l
+    none (inr l) = past (ltb 0 (cell zero_table v y)) l
 
 pub neighbours_joined : (old mid new l m : List ℕ) (x y : ℕ) → x < 52 → y < 52 → x ≢ y → AreNeighbours old l
     → ((u v : ℕ) → u < 52 → v < 52 → cell m u v ≡ cell l u v + joined x y u v)

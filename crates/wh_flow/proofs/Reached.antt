@@ -1,12 +1,12 @@
 -- What a search that ends without finding its sink means for flows and cuts.
-use Rattle.std.proofs.Common.{◌≡◌, ◌≢◌, ℕ, ◌+◌, ◌-◌, ◌*◌, ◌<◌, ◌≤◌, ◌==◌, Bool, true, false, cond, refl, sym, ap, ◌∙◌, subst, inl, inr, arith, List}
+use Rattle.std.proofs.Common.{◌≡◌, ◌≢◌, ℕ, ◌-◌, ◌<◌, ◌≤◌, ◌==◌, Bool, true, false, cond, refl, sym, ap, ◌∙◌, subst, inl, inr, arith, List}
 use Rattle.std.specs.Prelude.{leb, ltb, ◌^◌}
 use Rattle.std.proofs.lemmas.Bool.Decides.{nat_tests}
 use Rattle.std.proofs.lemmas.Bool.{cases_Bool, cases_lt, true≢false}
 use Rattle.std.proofs.lemmas.Nat.Bits.{bit_at-zero}
 use Rattle.wh_words.specs.LetterSets.{in_set}
-use Rattle.wh_words.specs.Flows.{IsFlow, IsWithin, HasMoreValueThan, FillsLeastCut, IsMaximum, IsLeastCut, IsClosed, Separates, IsReach}
-use Rattle.wh_flow.specs.Nets.{cell}
+use Rattle.wh_words.specs.Flows.{IsFlow, IsWithin, HasMoreValueThan, FillsLeastCut, IsMaximum, IsLeastCut, IsClosed, Separates, IsReach, place}
+use Rattle.wh_flow.specs.Tables.{cell}
 use Rattle.wh_flow.specs.Rerouting.{IsClosedFrom}
 use Rattle.wh_flow.specs.Searches.{residual, goes_back, IsOfLetters, IsPushed, IsLed, IsShut, IsSearched}
 use Rattle.wh_flow.proofs.Cuts.{closed-maximum, least-cut, is-full}
@@ -37,7 +37,7 @@ residual-zero : (cap flow : List ℕ) (x y : ℕ) → cell cap x y ≤ cell flow
 residual-zero cap flow x y h e = elim (cases_Bool (goes_back flow 0 x y)) [
   | inl b ↦ (residual_lowers cap flow 0 x y b).1 ∙ e
   | inr b ↦ (let e : cell cap x y - cell flow x y ≡ 0 = omega (arith, h) in
-      subst (λ (k : Bool). cond k (cell flow y x) (cond (leb 0 (52 * x + y)) (cell cap x y - cell flow x y) 0) ≡ 0) (sym b) (either (leb 0 (52 * x + y)) (cell cap x y - cell flow x y) e))
+      subst (λ (k : Bool). cond k (cell flow y x) (cond (leb 0 (place x y)) (cell cap x y - cell flow x y) 0) ≡ 0) (sym b) (either (leb 0 (place x y)) (cell cap x y - cell flow x y) e))
 ]
   where
     either : (b : Bool) (m : ℕ) → m ≡ 0 → cond b m 0 ≡ 0

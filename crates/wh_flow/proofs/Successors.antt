@@ -1,12 +1,12 @@
 -- The letters to which residual edges lead, as a set.
-use Rattle.std.proofs.Common.{◌≡◌, ◌≢◌, ℕ, ◌+◌, ◌*◌, ◌<◌, ◌≤◌, ◌==◌, Bool, true, false, refl, sym, ap, ◌∙◌, subst, inl, inr, ◌⊎◌, arith, List}
-use Rattle.std.specs.Prelude.{ltb, ◌&&◌}
+use Rattle.std.proofs.Common.{◌≡◌, ◌≢◌, ℕ, ◌+◌, ◌<◌, ◌==◌, Bool, true, false, sym, ap, ◌∙◌, subst, inl, inr, ◌⊎◌, arith, List, length, get_or}
+use Rattle.std.specs.Prelude.{ltb, ◌&&◌, slice_set}
 use Rattle.std.specs.Int.{bit_at}
 use Rattle.std.proofs.lemmas.Nat.Bits.{bit_at-zero}
-use Rattle.std.proofs.lemmas.Bool.{cases_Bool, cases_eq, true≢false}
+use Rattle.std.proofs.lemmas.List.{get_or-set_same, get_or-set_other}
+use Rattle.std.proofs.lemmas.Bool.{cases_eq}
 use Rattle.std.proofs.lemmas.Bool.Decides.{nat_tests}
 use Rattle.wh_words.specs.LetterSets.{in_set}
-use Rattle.wh_flow.specs.Nets.{cell}
 use Rattle.wh_flow.specs.Searches.{residual}
 use Rattle.wh_flow.specs.Residuals.{AreSuccessors}
 
@@ -60,3 +60,13 @@ module _ (set k : ℕ) (has : ℕ → ℕ) (below : IsSetBelow set k has) where
       next : (y ≡ k) ⊎ (y ≢ k) → (ltb y k && ltb 0 (has y)) ≡ (ltb y (k + 1) && ltb 0 (has y))
       next (inl e) = nothing (has y) (ap has e ∙ none) (ltb y k) ∙ sym (nothing (has y) (ap has e ∙ none) (ltb y (k + 1)))
       next (inr e) = both-same (ltb y k) (ltb y (k + 1)) (ltb 0 (has y)) (next-same y k e)
+
+-- ---- masks that are written letter by letter
+module _ (cap flow masks : List ℕ) (v set bits : ℕ) (size : length masks ≡ 52) (h : v < 52) (same : bits ≡ set) (has : AreSuccessors set cap flow 0 v)
+    (before : (u : ℕ) → u < v → AreSuccessors (get_or masks u 0) cap flow 0 u) where
+  pub successors_written : (u : ℕ) → u < v + 1 → AreSuccessors (get_or (slice_set masks v bits) u 0) cap flow 0 u
+  successors_written u l = elim (cases_eq u v) [
+    | inl e ↦ subst (λ (w : ℕ). AreSuccessors (get_or (slice_set masks v bits) w 0) cap flow 0 w) (sym e)
+        (subst (λ (m : ℕ). AreSuccessors m cap flow 0 v) (sym (get_or-set_same masks v bits 0 (omega (arith, size, h)) ∙ same)) has)
+    | inr e ↦ subst (λ (m : ℕ). AreSuccessors m cap flow 0 u) (sym (get_or-set_other masks v u bits 0 e)) (before u (omega (arith, l, e)))
+  ]

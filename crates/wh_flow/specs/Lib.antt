@@ -1,3 +1,4 @@
+pub mod Tables
 pub mod Nets
 pub mod Laws
 -- How this crate searches for flows.

@@ -1,8 +1,9 @@
--- Residual networks: what may still flow over capacities and a flow, at pairs from a place on.
-use Rattle.std.specs.Prelude.{◌≡◌, ◌≢◌, ℕ, ◌<◌, ltb, ◌&&◌, List, length, get_or}
+-- Residual networks: what may still flow over capacities and a flow, at the pairs from a place on.
+use Rattle.std.specs.Prelude.{◌≡◌, ◌≢◌, ℕ, ◌<◌, ◌≤◌, ltb, ◌&&◌, List, get_or}
+use Rattle.wh_words.specs.Limits.{most_letters}
 use Rattle.wh_words.specs.LetterSets.{in_set}
 use Rattle.wh_words.specs.Flows.{IsWithin, place}
-use Rattle.wh_flow.specs.Nets.{cell}
+use Rattle.wh_flow.specs.Tables.{IsTable, cell}
 use Rattle.wh_flow.specs.Searches.{residual}
 
 -- Capacities, a flow, and the place from which on pairs have residual edges.
@@ -15,10 +16,14 @@ pub record ResidualNet : Type 0 where
 abbrev pub AreSuccessors : ℕ → List ℕ → List ℕ → ℕ → ℕ → Type 0
 AreSuccessors set cap flow from v = (y : ℕ) → y < 64 → in_set set y ≡ (ltb y 52 && ltb 0 (residual cap flow from v y))
 
+-- No number is above the most edges that a network has.
+abbrev pub IsLow : List ℕ → Type 0
+IsLow cap = (x y : ℕ) → x < 52 → y < 52 → cell cap x y ≤ most_letters
+
 -- The flow is within the capacities, and the mask of each letter is the set of the letters to which residual edges lead from it.
 pub record IsResidualNet (cap flow : List ℕ) (from : ℕ) (masks : List ℕ) : Type 0 where
-  pub cap_size : length cap ≡ 2704
-  pub flow_size : length flow ≡ 2704
+  pub low : IsLow cap
+  pub table : IsTable flow
   pub within : IsWithin (cell cap) (cell flow)
   pub successors : (v : ℕ) → v < 52 → AreSuccessors (get_or masks v 0) cap flow from v
 

@@ -1,15 +1,16 @@
 //! What residual edges lead to, and the least cut.
-ghost use Rattle.std.specs.Prelude.{◌≡◌, ◌≢◌, ℕ, ◌*◌, ◌^◌, ◌<◌, ◌≤◌, length, true, false};
+ghost use Rattle.std.specs.Prelude.{◌≡◌, ◌≢◌, ℕ, ◌*◌, ◌^◌, ◌<◌, ◌≤◌, true, false};
 ghost use Rattle.std.specs.Int.{bit_at};
 ghost use Rattle.wh_words.specs.LetterSets.{in_set};
 ghost use Rattle.wh_words.specs.Flows.{IsWithin, IsFlow, IsMaximum, IsLeastCut, IsReach};
-ghost use Rattle.wh_flow.specs.Nets.{cell};
+ghost use Rattle.wh_flow.specs.Tables.{IsTable, cell};
 ghost use Rattle.wh_flow.specs.Searches.{IsOfLetters, Grew, IsSearched, IsLed};
 
 use crate::flow::Flow;
 use crate::net::Net;
 use crate::residual::successors_of;
 use crate::search::first_fresh;
+use crate::table::Table;
 use wh_words::{Letter, LetterSet};
 
 /// The letters that residual edges lead to from a letter of the rank: the least closed set that holds it (Picard and
@@ -20,7 +21,7 @@ pub fn reach(net: &Net, flow: &Flow, v: Letter) -> LetterSet
     ensures reach { IsReach (cell net.now.cells) (cell flow.now) v (in_set result) }
     ensures of_rank { result < 2 ^ (2 * net.now.rank) }
 {
-    reached(net.cells(), &flow.cells, net.letters(), v.index() as usize)
+    reached(net.cells(), &flow.table, net.letters(), v.index() as usize)
 }
 
 /// The least cut between two letters of the rank: the minimum cut that lies in each minimum cut. The flow is one of
@@ -35,13 +36,12 @@ pub fn least_cut(net: &Net, flow: &Flow, s: Letter, t: Letter) -> LetterSet
 {
     // The index is below 52, which the proof takes from this call.
     t.index();
-    reached(net.cells(), &flow.cells, net.letters(), s.index() as usize)
+    reached(net.cells(), &flow.table, net.letters(), s.index() as usize)
 }
 
 /// The letters that residual edges lead to from `v`.
-fn reached(cap: &[u32], flow: &[u32], letters: usize, v: usize) -> LetterSet
-    requires cap { length cap.now ≡ 2704 }
-    requires flow { length flow.now ≡ 2704 }
+fn reached(cap: &Table, flow: &Table, letters: usize, v: usize) -> LetterSet
+    requires table { IsTable flow.now }
     requires letters { letters ≤ 52 }
     requires v_within { v < letters }
     requires within { IsWithin (cell cap.now) (cell flow.now) }
@@ -56,9 +56,8 @@ fn reached(cap: &[u32], flow: &[u32], letters: usize, v: usize) -> LetterSet
 }
 
 /// Adds the letters that residual edges lead to from `v`.
-fn visit(cap: &[u32], flow: &[u32], seen: &mut LetterSet, v: usize)
-    requires cap { length cap.now ≡ 2704 }
-    requires flow { length flow.now ≡ 2704 }
+fn visit(cap: &Table, flow: &Table, seen: &mut LetterSet, v: usize)
+    requires table { IsTable flow.now }
     requires v_within { v < 52 }
     requires fresh { in_set seen.old v ≡ false }
     requires within { IsWithin (cell cap.now) (cell flow.now) }

@@ -1,7 +1,7 @@
 //! The first flow of a value: each number in turn is made the least that the numbers before it allow.
-ghost use Rattle.std.specs.Prelude.{◌≡◌, ℕ, ◌+◌, ◌*◌, ◌<◌, ◌≤◌, length, true, false};
+ghost use Rattle.std.specs.Prelude.{◌≡◌, ◌+◌, ◌<◌, ◌≤◌, true, false};
 ghost use Rattle.wh_words.specs.Flows.{IsFlow, IsFirstFlow, HaveOneValue, AgreeBefore, place};
-ghost use Rattle.wh_flow.specs.Nets.{cell};
+ghost use Rattle.wh_flow.specs.Tables.{IsTable, cell};
 ghost use Rattle.wh_flow.specs.Rerouting.{HaveOneNetFlow, IsLeastAt, IsFirstUpTo};
 
 use crate::flow::Flow;
@@ -14,7 +14,7 @@ use wh_words::Letter;
 /// then by the second, and a smaller number comes first.
 pub fn least_flow(net: &Net, flow: &Flow, s: Letter, t: Letter) -> Flow
     requires flow { IsFlow (cell net.now.cells) (cell flow.now) s t }
-    ensures size { length result ≡ 2704 }
+    ensures table { IsTable result }
     ensures first { IsFirstFlow (cell net.now.cells) (cell result) s t }
     ensures same { HaveOneValue (cell flow.now) (cell result) s }
 {
@@ -32,7 +32,7 @@ fn lower_all(residual: &mut ResidualNet, letters: usize)
     requires from { residual.old.from ≡ 0 }
     ensures cap { residual.new.cap ≡ residual.old.cap }
     ensures net { HaveOneNetFlow (cell residual.old.flow) (cell residual.new.flow) }
-    ensures first { IsFirstUpTo (52 * letters) (cell residual.old.cap) (cell residual.new.flow) }
+    ensures first { IsFirstUpTo (place letters 0) (cell residual.old.cap) (cell residual.new.flow) }
 {
     for x in 0..letters {
         lower_row(residual, x);
@@ -42,12 +42,12 @@ fn lower_all(residual: &mut ResidualNet, letters: usize)
 /// Lowers the numbers of a row in turn.
 fn lower_row(residual: &mut ResidualNet, x: usize)
     requires x_within { x < 52 }
-    requires from { residual.old.from ≡ 52 * x }
-    requires first { IsFirstUpTo (52 * x) (cell residual.old.cap) (cell residual.old.flow) }
+    requires from { residual.old.from ≡ place x 0 }
+    requires first { IsFirstUpTo (place x 0) (cell residual.old.cap) (cell residual.old.flow) }
     ensures cap { residual.new.cap ≡ residual.old.cap }
-    ensures from { residual.new.from ≡ 52 * x + 52 }
+    ensures from { residual.new.from ≡ place (x + 1) 0 }
     ensures net { HaveOneNetFlow (cell residual.old.flow) (cell residual.new.flow) }
-    ensures first { IsFirstUpTo (52 * x + 52) (cell residual.old.cap) (cell residual.new.flow) }
+    ensures first { IsFirstUpTo (place (x + 1) 0) (cell residual.old.cap) (cell residual.new.flow) }
 {
     for y in 0..52 {
         residual.leave_out(x, y);
@@ -59,7 +59,7 @@ fn lower_row(residual: &mut ResidualNet, x: usize)
 fn lower(residual: &mut ResidualNet, x: usize, y: usize)
     requires x_within { x < 52 }
     requires y_within { y < 52 }
-    requires from { residual.old.from ≡ 52 * x + y + 1 }
+    requires from { residual.old.from ≡ place x y + 1 }
     ensures cap { residual.new.cap ≡ residual.old.cap }
     ensures from { residual.new.from ≡ residual.old.from }
     ensures net { HaveOneNetFlow (cell residual.old.flow) (cell residual.new.flow) }
@@ -73,7 +73,7 @@ fn lower(residual: &mut ResidualNet, x: usize, y: usize)
 fn reroute(residual: &mut ResidualNet, x: usize, y: usize) -> bool
     requires x_within { x < 52 }
     requires y_within { y < 52 }
-    requires from { residual.old.from ≡ 52 * x + y + 1 }
+    requires from { residual.old.from ≡ place x y + 1 }
     ensures cap { residual.new.cap ≡ residual.old.cap }
     ensures from { residual.new.from ≡ residual.old.from }
     ensures net { HaveOneNetFlow (cell residual.old.flow) (cell residual.new.flow) }

@@ -10,6 +10,7 @@ mod maximum;
 mod net;
 mod residual;
 mod search;
+mod table;
 
 pub use check::check_flow;
 pub use cut::{least_cut, reach};

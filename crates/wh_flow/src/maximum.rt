@@ -1,7 +1,7 @@
 //! Flows of greatest value, by rounds that each raise the value (Ford and Fulkerson).
 ghost use Rattle.std.specs.Prelude.{◌≡◌, ◌≢◌, ℕ, ◌+◌, ◌*◌, ◌<◌, ◌≤◌, ◌↔◌, cond, length, true, false};
 ghost use Rattle.wh_words.specs.Flows.{IsFlow, HasMoreValueThan, IsMaximum, FillsLeastCut, degree};
-ghost use Rattle.wh_flow.specs.Nets.{cell};
+ghost use Rattle.wh_flow.specs.Tables.{cell};
 
 use crate::flow::Flow;
 use crate::net::Net;

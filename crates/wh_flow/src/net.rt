@@ -1,22 +1,24 @@
 //! Networks: how many edges join each two letters.
-ghost use Rattle.std.specs.Prelude.{◌≡◌, ◌≢◌, ℕ, ◌+◌, ◌*◌, ◌<◌, ◌≤◌, ◌⊎◌, true, cond, length, get_or, replicate};
+ghost use Rattle.std.specs.Prelude.{◌≡◌, ◌≢◌, ℕ, ◌+◌, ◌*◌, ◌<◌, ◌≤◌, ◌⊎◌, true, cond, length, get_or};
 ghost use Rattle.wh_words.specs.Limits.{most_letters};
 ghost use Rattle.wh_words.specs.LetterSets.{in_set};
 ghost use Rattle.wh_words.specs.Edges.{joins};
-ghost use Rattle.wh_flow.specs.Nets.{cell, edge_count, IsNet};
+ghost use Rattle.wh_flow.specs.Tables.{IsTable, cell, zero_table};
+ghost use Rattle.wh_flow.specs.Nets.{edge_count, IsNet};
 ghost use Rattle.wh_flow.specs.Searches.{IsOfLetters};
-ghost use Rattle.wh_flow.specs.Residuals.{AreNeighbours};
+ghost use Rattle.wh_flow.specs.Residuals.{AreNeighbours, IsLow};
 
+use crate::table::Table;
 use std::marker::Model;
 use wh_words::{Letter, LetterSet, Rank};
 
 /// A network on the letters of a rank: the number of edges between each two letters. Edges have no direction, join two
-/// different letters, and there are at most 4,096 of them. Contracts see the rank and the table of these numbers, row by
-/// row. The neighbours of each letter are kept as a mask too.
+/// different letters, and there are at most 4,096 of them. Contracts see the rank and the table of these numbers. The
+/// neighbours of each letter are kept as a mask too.
 #[derive(Drop, Clone)]
 pub struct Net {
     rank: Rank,
-    cells: [u32; 2704],
+    cells: Table,
     neighbours: [u64; 52],
 }
 
@@ -35,14 +37,14 @@ impl Model for Net {
 impl Net {
     /// The network of a rank without edges.
     pub fn empty(rank: Rank) -> Net
-        ensures same { result ≡ record { rank = rank; cells = replicate 2704 0 } }
+        ensures same { result ≡ record { rank = rank; cells = zero_table } }
         ensures none { edge_count result.cells ≡ 0 }
     {
         // The rank is at most 26, which the proof takes from this call.
         rank.get();
         Net {
             rank,
-            cells: [0; 2704],
+            cells: Table::zero(),
             neighbours: [0; 52],
         }
     }
@@ -59,7 +61,7 @@ impl Net {
     pub fn cap_of(&self, x: Letter, y: Letter) -> u32
         ensures { result ≡ cell self.now.cells x y }
     {
-        self.cells[52 * x.index() as usize + y.index() as usize]
+        self.cells.get(x.index() as usize, y.index() as usize)
     }
 
     /// Adds an edge between two different letters of the rank, to a network with fewer than 4,096 edges.
@@ -79,10 +81,10 @@ impl Net {
         add_neighbour(&mut self.neighbours, y, x);
     }
 
-    /// The capacities, row by row.
-    pub(crate) fn cells(&self) -> &[u32]
+    /// The capacities.
+    pub(crate) fn cells(&self) -> &Table
         ensures cells { result.now ≡ self.now.cells }
-        ensures size { length result.now ≡ 2704 }
+        ensures low { IsLow result.now }
         ensures of_letters { IsOfLetters (2 * self.now.rank) result.now }
     {
         &self.cells
@@ -106,18 +108,17 @@ impl Net {
 }
 
 /// Adds one at `x` and `y`, and one at `y` and `x`.
-fn write_edge(cells: &mut [u32], x: usize, y: usize)
+fn write_edge(cells: &mut Table, x: usize, y: usize)
     requires x_within { x < 52 }
     requires y_within { y < 52 }
     requires apart { x ≢ y }
-    requires size { length cells.old ≡ 2704 }
     requires low { cell cells.old x y ≤ most_letters }
     requires low_back { cell cells.old y x ≤ most_letters }
-    ensures size { length cells.new ≡ 2704 }
+    ensures table { IsTable cells.new }
     ensures edge { (u v : ℕ) → u < 52 → v < 52 → cell cells.new u v ≡ cell cells.old u v + cond (joins u v (x, y)) 1 0 }
 {
-    cells[52 * x + y] += 1;
-    cells[52 * y + x] += 1;
+    cells.add(x, y, 1);
+    cells.add(y, x, 1);
 }
 
 /// Adds `y` to the neighbours of `x`.

@@ -1,13 +1,14 @@
 //! The residual network of a flow: what may still flow between letters.
-ghost use Rattle.std.specs.Prelude.{◌≡◌, ◌≢◌, ℕ, ◌+◌, ◌-◌, ◌*◌, ◌<◌, ◌≤◌, ◌⊎◌, ltb, length, get_or, slice_set, replicate};
+ghost use Rattle.std.specs.Prelude.{◌≡◌, ◌≢◌, ℕ, ◌+◌, ◌-◌, ◌<◌, ◌≤◌, ◌⊎◌, ltb, length, get_or};
 ghost use Rattle.wh_words.specs.LetterSets.{in_set};
 ghost use Rattle.wh_words.specs.Flows.{IsWithin, place};
-ghost use Rattle.wh_flow.specs.Nets.{cell};
+ghost use Rattle.wh_flow.specs.Tables.{IsTable, cell, zero_table, with_cell};
 ghost use Rattle.wh_flow.specs.Searches.{residual, goes_back, IsShifted};
-ghost use Rattle.wh_flow.specs.Residuals.{AreSuccessors, IsSameBut};
+ghost use Rattle.wh_flow.specs.Residuals.{AreSuccessors, IsLow, IsSameBut};
 
 use crate::flow::Flow;
 use crate::net::Net;
+use crate::table::{Table, place_of};
 use std::marker::Model;
 use wh_words::{Letter, LetterSet};
 
@@ -15,8 +16,8 @@ use wh_words::{Letter, LetterSet};
 /// flow and the place. The letters to which residual edges lead are kept for each letter as a mask.
 #[derive(Drop)]
 pub(crate) struct ResidualNet<'a> {
-    cap: &'a [u32],
-    flow: [u32; 2704],
+    cap: &'a Table,
+    flow: Table,
     from: usize,
     successors: [u64; 52],
 }
@@ -35,11 +36,11 @@ impl<'a> Model for ResidualNet<'a> {
 impl<'a> ResidualNet<'a> {
     /// The residual network where nothing flows.
     pub fn without_flow(net: &'a Net) -> ResidualNet<'a>
-        ensures { result ≡ record { cap = net.now.cells; flow = replicate 2704 0; from = 0 } }
+        ensures { result ≡ record { cap = net.now.cells; flow = zero_table; from = 0 } }
     {
         ResidualNet {
             cap: net.cells(),
-            flow: [0; 2704],
+            flow: Table::zero(),
             from: 0,
             successors: net.neighbours(),
         }
@@ -52,10 +53,10 @@ impl<'a> ResidualNet<'a> {
     {
         let cap = net.cells();
         let mut successors = [0; 52];
-        write_successors(cap, &flow.cells, &mut successors);
+        write_successors(cap, &flow.table, &mut successors);
         ResidualNet {
             cap,
-            flow: flow.cells,
+            flow: flow.table.copy(),
             from: 0,
             successors,
         }
@@ -64,10 +65,10 @@ impl<'a> ResidualNet<'a> {
     /// The flow.
     pub fn into_flow(self) -> Flow
         ensures same { result ≡ self.entry.flow }
-        ensures size { length result ≡ 2704 }
+        ensures table { IsTable result }
         ensures within { IsWithin (cell self.entry.cap) (cell result) }
     {
-        Flow { cells: self.flow }
+        Flow { table: self.flow }
     }
 
     /// What flows from `x` to `y`.
@@ -76,7 +77,7 @@ impl<'a> ResidualNet<'a> {
         requires y_within { y < 52 }
         ensures { result ≡ cell self.now.flow x y }
     {
-        self.flow[52 * x + y]
+        self.flow.get(x, y)
     }
 
     /// The letters to which residual edges lead from `v`.
@@ -116,7 +117,7 @@ impl<'a> ResidualNet<'a> {
     pub fn leave_out(&mut self, x: usize, y: usize)
         requires x_within { x < 52 }
         requires y_within { y < 52 }
-        requires first { self.old.from ≡ 52 * x + y }
+        requires first { self.old.from ≡ place x y }
         ensures { self.new ≡ record { cap = self.old.cap; flow = self.old.flow; from = self.old.from + 1 } }
     {
         self.from += 1;
@@ -128,21 +129,19 @@ impl<'a> ResidualNet<'a> {
     pub fn lower(&mut self, x: usize, y: usize, d: u32)
         requires x_within { x < 52 }
         requires y_within { y < 52 }
-        requires left_out { 52 * x + y < self.old.from }
+        requires left_out { place x y < self.old.from }
         requires fits { d ≤ cell self.old.flow x y }
         ensures cap { self.new.cap ≡ self.old.cap }
         ensures from { self.new.from ≡ self.old.from }
-        ensures size { length self.old.flow ≡ 2704 }
-        ensures flow { self.new.flow ≡ slice_set self.old.flow (52 * x + y) (cell self.old.flow x y - d) }
+        ensures table { IsTable self.old.flow }
+        ensures flow { self.new.flow ≡ with_cell self.old.flow x y (cell self.old.flow x y - d) }
     {
-        self.flow[52 * x + y] -= d;
+        self.flow.take(x, y, d);
     }
 }
 
 /// Writes for each letter the letters to which residual edges lead.
-fn write_successors(cap: &[u32], flow: &[u32], successors: &mut [u64])
-    requires cap { length cap.now ≡ 2704 }
-    requires flow { length flow.now ≡ 2704 }
+fn write_successors(cap: &Table, flow: &Table, successors: &mut [u64])
     requires size { length successors.old ≡ 52 }
     requires within { IsWithin (cell cap.now) (cell flow.now) }
     ensures size { length successors.new ≡ 52 }
@@ -154,9 +153,7 @@ fn write_successors(cap: &[u32], flow: &[u32], successors: &mut [u64])
 }
 
 /// The letters to which residual edges lead from `v`, at all pairs.
-pub(crate) fn successors_of(cap: &[u32], flow: &[u32], v: usize) -> LetterSet
-    requires cap { length cap.now ≡ 2704 }
-    requires flow { length flow.now ≡ 2704 }
+pub(crate) fn successors_of(cap: &Table, flow: &Table, v: usize) -> LetterSet
     requires v_within { v < 52 }
     requires within { IsWithin (cell cap.now) (cell flow.now) }
     ensures { AreSuccessors result cap.now flow.now 0 v }
@@ -171,9 +168,7 @@ pub(crate) fn successors_of(cap: &[u32], flow: &[u32], v: usize) -> LetterSet
 }
 
 /// Notes in the mask of `x` whether a residual edge leads to `y`.
-fn note_edge(cap: &[u32], flow: &[u32], from: usize, successors: &mut [u64], x: usize, y: usize)
-    requires cap { length cap.now ≡ 2704 }
-    requires flow { length flow.now ≡ 2704 }
+fn note_edge(cap: &Table, flow: &Table, from: usize, successors: &mut [u64], x: usize, y: usize)
     requires size { length successors.old ≡ 52 }
     requires x_within { x < 52 }
     requires y_within { y < 52 }
@@ -193,49 +188,45 @@ fn note_edge(cap: &[u32], flow: &[u32], from: usize, successors: &mut [u64], x: 
 }
 
 /// The residual capacity from `x` to `y`, at the pairs from a place on: how much more can go.
-fn residual_capacity(cap: &[u32], flow: &[u32], from: usize, x: usize, y: usize) -> u32
-    requires cap { length cap.now ≡ 2704 }
-    requires flow { length flow.now ≡ 2704 }
+fn residual_capacity(cap: &Table, flow: &Table, from: usize, x: usize, y: usize) -> u32
     requires x_within { x < 52 }
     requires y_within { y < 52 }
     requires within { IsWithin (cell cap.now) (cell flow.now) }
     ensures { result ≡ residual cap.now flow.now from x y }
 {
     if is_back(flow, from, x, y) {
-        flow[52 * y + x]
-    } else if from <= 52 * x + y {
-        cap[52 * x + y] - flow[52 * x + y]
+        flow.get(y, x)
+    } else if from <= place_of(x, y) {
+        cap.get(x, y) - flow.get(x, y)
     } else {
         0
     }
 }
 
 /// Takes `d` from `x` to `y`: less flows back, or more flows there.
-fn shift(cap: &[u32], flow: &mut [u32], from: usize, x: usize, y: usize, d: u32)
-    requires cap { length cap.now ≡ 2704 }
-    requires flow { length flow.old ≡ 2704 }
+fn shift(cap: &Table, flow: &mut Table, from: usize, x: usize, y: usize, d: u32)
+    requires low { IsLow cap.now }
     requires x_within { x < 52 }
     requires y_within { y < 52 }
     requires some { 0 < d }
     requires fits { d ≤ residual cap.now flow.old from x y }
     requires within { IsWithin (cell cap.now) (cell flow.old) }
-    ensures size { length flow.new ≡ 2704 }
+    ensures table { IsTable flow.new }
     ensures shifted { IsShifted cap.now flow.old flow.new from x y d }
     ensures kept { IsSameBut flow.old flow.new x y }
 {
     if is_back(flow, from, x, y) {
-        flow[52 * y + x] -= d;
+        flow.take(y, x, d);
     } else {
-        flow[52 * x + y] += d;
+        flow.add(x, y, d);
     }
 }
 
 /// Whether something flows from `y` to `x`, at a pair from the place on.
-fn is_back(flow: &[u32], from: usize, x: usize, y: usize) -> bool
-    requires flow { length flow.now ≡ 2704 }
+fn is_back(flow: &Table, from: usize, x: usize, y: usize) -> bool
     requires x_within { x < 52 }
     requires y_within { y < 52 }
     ensures { result ≡ goes_back flow.now from x y }
 {
-    from <= 52 * y + x && 0 < flow[52 * y + x]
+    from <= place_of(y, x) && 0 < flow.get(y, x)
 }

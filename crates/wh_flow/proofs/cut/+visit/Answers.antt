@@ -1,8 +1,8 @@
-use Rattle.std.proofs.Common.{rules, ◌≡◌, ◌≢◌, ℕ, ◌+◌, ◌<◌, true, false, arith, sym, ap, subst, ◌∙◌, inl, inr}
+use Rattle.std.proofs.Common.{◌≡◌, ◌≢◌, ℕ, arith, sym, subst, ◌∙◌, inl, inr}
 use Rattle.std.specs.Int.{bit_at}
 use Rattle.std.proofs.lemmas.Bool.{cases_Bool, cases_eq, true≢false}
 use Rattle.wh_words.specs.LetterSets.{in_set}
-use Rattle.wh_flow.specs.Searches.{residual, unseen, IsSearching, IsLed}
+use Rattle.wh_flow.specs.Searches.{IsLed}
 use Rattle.wh_flow.proofs.Pushes.{led_here, led_on}
 use Rattle.wh_flow.proofs.Successors.{successor_leads}
 use Rattle.wh_flow.proofs.Searching.{searching_starts, searching_more, searching_ends, marked_other, marked_grew, marked_fewer, grew_fewer, searched_fewer}
@@ -18,7 +18,7 @@ loop-y-init t c =
       searching = searching_starts c.args.cap.now c.args.flow.now c.args.seen.now 0 c.args.v 52 c.with.result same others (λ e. absurd (omega (arith, e, c.requires.v_within)));
       led = λ x h n b. elim (cases_eq x c.args.v) [
         | inl e ↦ subst (λ (z : ℕ). IsLed c.args.cap.now c.args.flow.now c.args.seen.now c.args.v z) (sym e)
-            (led_here c.args.cap.now c.args.flow.now c.args.seen.now c.args.v c.requires.flow c.requires.within)
+            (led_here c.args.cap.now c.args.flow.now c.args.seen.now c.args.v c.requires.table c.requires.within)
         | inr e ↦ absurd (true≢false (sym b ∙ marked_other c.args.seen.now c.with.result c.args.v same others x e ∙ n))
       ];
       past = λ x l. marked_other c.args.seen.now c.with.result c.args.v same others x (λ e. absurd (omega (arith, e, l, c.requires.v_within)));

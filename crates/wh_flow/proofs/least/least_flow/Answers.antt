@@ -1,6 +1,6 @@
-use Rattle.std.proofs.Common.{ℕ, ◌≡◌, ◌+◌, ◌*◌, ◌∙◌, sym, ap, subst, inl, arith, List}
-use Rattle.wh_words.specs.Flows.{IsWithin}
-use Rattle.wh_flow.specs.Nets.{cell}
+use Rattle.std.proofs.Common.{ℕ, ◌≡◌, ◌∙◌, sym, ap, subst, inl, arith, List}
+use Rattle.wh_words.specs.Flows.{IsWithin, place}
+use Rattle.wh_flow.specs.Tables.{cell, pair_count}
 use Rattle.wh_flow.specs.Residuals.{ResidualNet}
 use Rattle.wh_flow.specs.Rerouting.{HaveOneNetFlow, IsFirstUpTo}
 use Rattle.wh_flow.specs.Searches.{IsOfLetters}
@@ -16,9 +16,9 @@ returns-clause-first c =
     let net : HaveOneNetFlow (cell c.args.flow.now) (cell c.into_flow.result) =
     subst (λ (l : List ℕ). HaveOneNetFlow (cell l) (cell c.into_flow.result)) flow
     (subst (λ (l : List ℕ). HaveOneNetFlow (cell c.of-residual.result.flow) (cell l)) (sym c.into_flow.ensures.same) c.lower_all.ensures.net) in
-    let first : IsFirstUpTo (52 * c.letters.result) (cell c.args.net.now.cells) (cell c.into_flow.result) =
-    subst (λ (l : List ℕ). IsFirstUpTo (52 * c.letters.result) (cell l) (cell c.into_flow.result)) cap
-    (subst (λ (l : List ℕ). IsFirstUpTo (52 * c.letters.result) (cell c.of-residual.result.cap) (cell l)) (sym c.into_flow.ensures.same) c.lower_all.ensures.first) in
+    let first : IsFirstUpTo (place c.letters.result 0) (cell c.args.net.now.cells) (cell c.into_flow.result) =
+    subst (λ (l : List ℕ). IsFirstUpTo (place c.letters.result 0) (cell l) (cell c.into_flow.result)) cap
+    (subst (λ (l : List ℕ). IsFirstUpTo (place c.letters.result 0) (cell c.of-residual.result.cap) (cell l)) (sym c.into_flow.ensures.same) c.lower_all.ensures.first) in
     let of_letters : IsOfLetters c.letters.result c.args.net.now.cells = subst (λ (k : ℕ). IsOfLetters k c.args.net.now.cells) (sym c.letters.ensures.value) c.letters.ensures.of_letters in
     first_done (cell c.args.net.now.cells) (cell c.args.flow.now) (cell c.into_flow.result) c.args.s c.args.t c.index-2.ensures.below c.requires.flow within net
-    (first_past c.letters.result (52 * c.letters.result) 2704 c.args.net.now.cells c.into_flow.result of_letters within first (λ u v h i k l. inl (omega (arith, h, i, k))))
+    (first_past c.letters.result (place c.letters.result 0) pair_count c.args.net.now.cells c.into_flow.result of_letters within first (λ u v h i k l. inl (omega (arith, h, i, k))))

@@ -1,6 +1,6 @@
 use Rattle.std.proofs.Common.{◌≡◌}
 use Rattle.wh_words.specs.Flows.{AgreeBefore, place}
-use Rattle.wh_flow.specs.Nets.{cell}
+use Rattle.wh_flow.specs.Tables.{cell}
 use Rattle.wh_flow.specs.Rerouting.{HaveOneNetFlow}
 use Rattle.wh_flow.proofs.least.lower.Given as goal
 

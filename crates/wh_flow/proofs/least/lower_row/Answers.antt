@@ -1,5 +1,5 @@
-use Rattle.std.proofs.Common.{ℕ, ◌≡◌, ◌+◌, ◌*◌, ◌∙◌, arith, refl, sym, ap, subst, inr, List}
-use Rattle.wh_flow.specs.Nets.{cell}
+use Rattle.std.proofs.Common.{ℕ, ◌≡◌, ◌+◌, ◌∙◌, arith, refl, ap, subst, List}
+use Rattle.wh_flow.specs.Tables.{cell}
 use Rattle.wh_flow.specs.Residuals.{ResidualNet}
 use Rattle.wh_flow.specs.Rerouting.{IsFirstUpTo, IsLeastAt, HaveOneNetFlow}
 use Rattle.wh_words.specs.Flows.{AgreeBefore, place}
@@ -9,12 +9,11 @@ use Rattle.wh_flow.proofs.least.lower_row.Goals as goal
 
 pub loop-y-init : goal.loop-y-init
 loop-y-init c =
-    let e : 52 * c.args.x ≡ 52 * c.args.x + 0 = omega arith in
     record {
       cap = refl;
       from = omega (arith, c.requires.from);
       net = λ v h. refl;
-      first = subst (λ (k : ℕ). IsFirstUpTo k (cell c.args.residual.now.cap) (cell c.args.residual.now.flow)) e c.requires.first;
+      first = c.requires.first;
     }
 
 pub loop-y-preserved : goal.loop-y-preserved
@@ -28,7 +27,7 @@ loop-y-preserved c =
     subst (λ (l : List ℕ). AgreeBefore (place c.args.x c.loop-y.y) (cell l) (cell c.lower.new.residual.flow)) flow c.lower.ensures.front in
     let least : IsLeastAt (cell c.args.residual.now.cap) (cell c.lower.new.residual.flow) c.args.x c.loop-y.y =
     subst (λ (l : List ℕ). IsLeastAt (cell l) (cell c.lower.new.residual.flow) c.args.x c.loop-y.y) cap c.lower.ensures.least in
-    let e : 52 * c.args.x + c.loop-y.y + 1 ≡ 52 * c.args.x + (c.loop-y.y + 1) = omega arith in
+    let e : place c.args.x c.loop-y.y + 1 ≡ place c.args.x (c.loop-y.y + 1) = omega arith in
     record {
       cap = c.lower.ensures.cap ∙ cap;
       from = omega (arith, c.lower.ensures.from, from, c.loop-y.invariant.from);

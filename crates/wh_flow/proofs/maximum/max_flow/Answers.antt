@@ -1,13 +1,13 @@
-use Rattle.std.proofs.Common.{ℕ, ◌≡◌, ◌+◌, ◌≤◌, ◌∙◌, arith, sym, ap, subst, List, replicate, cond}
-use Rattle.wh_words.specs.Flows.{IsFlow, inflow, outflow}
-use Rattle.wh_flow.specs.Nets.{cell}
+use Rattle.std.proofs.Common.{ℕ, ◌≡◌, ◌+◌, ◌∙◌, arith, ap, subst, List, cond}
+use Rattle.wh_words.specs.Flows.{IsFlow}
+use Rattle.wh_flow.specs.Tables.{cell, zero_table}
 use Rattle.wh_flow.specs.Residuals.{ResidualNet}
 use Rattle.wh_flow.proofs.Rounds.{starts_flow, starts_even, gap_falls, out_most}
 use Rattle.wh_flow.proofs.maximum.max_flow.Goals as goal
 
 pub raise-init : goal.raise-init
 raise-init g c =
-    let flow : c.without_flow-residual.result.flow ≡ replicate 2704 0 = ap (λ (r : ResidualNet). r.flow) c.without_flow-residual.ensures in
+    let flow : c.without_flow-residual.result.flow ≡ zero_table = ap (λ (r : ResidualNet). r.flow) c.without_flow-residual.ensures in
     record {
       sink = c.new-search.ensures.sink;
       cap = ap (λ (r : ResidualNet). r.cap) c.without_flow-residual.ensures;

@@ -1,6 +1,6 @@
 use Rattle.std.proofs.Common.{◌≡◌, ◌≤◌, ◌+◌, ◌-◌}
 use Rattle.wh_words.specs.Flows.{IsFlow, outflow, inflow, degree}
-use Rattle.wh_flow.specs.Nets.{cell}
+use Rattle.wh_flow.specs.Tables.{cell}
 use Rattle.wh_flow.proofs.maximum.max_flow.Given as goal
 
 abbrev pub invariant-raise : goal.invariant-raise

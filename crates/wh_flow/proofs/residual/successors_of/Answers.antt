@@ -1,4 +1,4 @@
-use Rattle.std.proofs.Common.{◌≡◌, ◌<◌, ◌+◌, ◌∙◌, arith, sym, subst, ℕ}
+use Rattle.std.proofs.Common.{◌≡◌, ◌+◌, ◌∙◌, arith, sym, subst, ℕ}
 use Rattle.std.specs.Int.{bit_at}
 use Rattle.wh_flow.specs.Searches.{residual}
 use Rattle.wh_flow.proofs.Successors.{IsSetBelow, set_none, set_with, set_without}

@@ -21,7 +21,7 @@ invariant_of-self c =
           c.self.inside.rank c.self.invariant.0
           (omega (arith, c.requires.x_of_rank, ap (λ (n : Net). n.rank) c.self.view_is, c.index-x.ensures.same))
           (omega (arith, c.requires.y_of_rank, ap (λ (n : Net). n.rank) c.self.view_is, c.index-y.ensures.same))
-          (omega (arith, c.requires.few, ap (λ (n : Net). edge_count n.cells) c.self.view_is)) c.write_edge.ensures.size,
+          (omega (arith, c.requires.few, ap (λ (n : Net). edge_count n.cells) c.self.view_is)) c.write_edge.ensures.table,
       neighbours_joined c.self.inside.neighbours c.add_neighbour.new.neighbours c.add_neighbour-2.new.neighbours c.self.inside.cells c.write_edge.new.cells c.index-x.result c.index-y.result
           (omega (arith, c.index-x.ensures.same, c.index-x.ensures.below)) (omega (arith, c.index-y.ensures.same, c.index-y.ensures.below)) apart
           c.self.invariant.1 c.write_edge.ensures.edge c.add_neighbour.ensures.here c.add_neighbour.ensures.others c.add_neighbour-2.ensures.here c.add_neighbour-2.ensures.others,

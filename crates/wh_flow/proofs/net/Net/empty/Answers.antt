@@ -3,7 +3,7 @@ use Rattle.wh_flow.proofs.NotedEdges.{no_neighbours}
 use Rattle.wh_flow.proofs.net.Net.empty.Goals as goal
 
 pub invariant_of-result : goal.invariant_of-result
-invariant_of-result c = (empty_net c.args.rank c.get.ensures.greatest, no_neighbours)
+invariant_of-result c = rw c.zero.ensures (empty_net c.args.rank c.get.ensures.greatest, no_neighbours)
 
 pub returns-clause-none : goal.returns-clause-none
-returns-clause-none c = empty_count
+returns-clause-none c = rw c.zero.ensures empty_count

@@ -1,12 +1,11 @@
-use Rattle.std.proofs.Common.{◌≡◌}
 use Rattle.wh_flow.specs.Searches.{residual}
 use Rattle.wh_flow.proofs.NotedEdges.{noted, shift_agrees}
 use Rattle.wh_flow.proofs.residual.ResidualNet.shift.Goals as goal
 
 pub invariant_of-self : goal.invariant_of-self
 invariant_of-self c = record {
-  cap_size = c.self.invariant.cap_size;
-  flow_size = c.shift.ensures.size;
+  low = c.self.invariant.low;
+  table = c.shift.ensures.table;
   within = c.shift.ensures.shifted.within;
   successors = noted c.self.inside.successors c.note_edge.new.successors c.note_edge-2.new.successors (residual c.self.inside.cap.now c.self.inside.flow c.self.inside.from) (residual c.self.inside.cap.now c.shift.new.flow c.self.inside.from)
       c.args.x c.args.y c.requires.x_within c.requires.y_within c.self.invariant.successors

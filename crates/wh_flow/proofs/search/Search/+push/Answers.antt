@@ -1,6 +1,6 @@
-use Rattle.std.proofs.Common.{◌≡◌, ◌≢◌, ℕ, ◌+◌, ◌<◌, true, false, arith, sym, ap, subst, ◌∙◌, refl, List, rules}
+use Rattle.std.proofs.Common.{◌≡◌, ℕ, ◌<◌, false, arith, sym, ap, subst, ◌∙◌, refl, List, rules}
 use Rattle.wh_words.specs.LetterSets.{in_set}
-use Rattle.wh_flow.specs.Searches.{residual, unseen, IsPushed, IsShifted, IsSearching, IsSearched}
+use Rattle.wh_flow.specs.Searches.{residual, IsPushed, IsShifted, IsSearched}
 use Rattle.wh_flow.specs.Residuals.{ResidualNet}
 use Rattle.wh_flow.proofs.Pushes.{pushed_on, residual_kept}
 use Rattle.wh_flow.proofs.Successors.{successor_leads}
