@@ -5,7 +5,7 @@ use Rattle.std.specs.Prelude.{Some, None, MatchOption}
 use Rattle.std.specs.Int.{bit_at, bit_not}
 use Rattle.std.proofs.lemmas.Nat.Bits.{bit_at_and, bit_at_not, bit_at-lt, bit_at-zero}
 use Rattle.wh_words.specs.LetterSets.{in_set}
-use Rattle.wh_flow.specs.Searches.{IsFresh, IsAllSeen}
+use Rattle.wh_flow.specs.Masks.{IsFresh, IsAllSeen}
 
 pub in_part : (a b y : ℕ) → in_set (bit_and a b) y ≡ true → in_set a y ≡ true
 in_part a b y h = eq-eqb (bit_at a y) 1 (omega (arith, bit_at_and a b y, eqb-true (bit_at (bit_and a b) y) 1 h, bit_at-lt a y))

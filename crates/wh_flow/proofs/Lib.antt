@@ -6,8 +6,9 @@ pub mod Cells
 pub mod Entries
 pub mod NetEdges
 pub mod Pushes
-pub mod Successors
-pub mod NotedEdges
+pub mod Masks
+pub mod Neighbours
+pub mod ResidualNets
 pub mod FreshLetters
 pub mod Searching
 pub mod Reached

@@ -78,7 +78,7 @@ pushed_on cap f g h old seen from v y t d lv ly nv ny grew p s = record {
   column = λ a b i j e. p.column a b i j (grew b e) ∙ s.column a b i j (λ k. true≢false (sym e ∙ ap (in_set old) k ∙ nv)) (λ k. true≢false (sym (grew b e) ∙ ap (in_set seen) k ∙ ny));
 }
 
-residual-at : ℕ → ℕ → ℕ → ℕ → ℕ → ℕ → ℕ
+unfoldable pub residual-at : ℕ → ℕ → ℕ → ℕ → ℕ → ℕ → ℕ
 residual-at from x y back there c = cond (leb from (place y x) && ltb 0 back) back (cond (leb from (place x y)) (c - there) 0)
 
 -- A way by letters that weren't seen keeps the residual capacities from a seen letter.

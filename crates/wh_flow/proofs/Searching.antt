@@ -5,10 +5,11 @@ use Rattle.std.specs.Int.{bit_at}
 use Rattle.std.specs.Int.Bits.{mask_lt}
 use Rattle.std.proofs.lemmas.Nat.Bits.{bit_at_and, bit_at_ones, bit_at_ones_above, bit_at-lt, same_from_bits}
 use Rattle.wh_words.specs.LetterSets.{in_set}
-use Rattle.wh_flow.specs.Searches.{residual, unseen, Grew, IsAllSeen, IsSearched, IsSearching}
-use Rattle.wh_flow.specs.Residuals.{AreSuccessors}
+use Rattle.wh_flow.specs.Masks.{IsAllSeen}
+use Rattle.wh_flow.specs.Searches.{residual, unseen, Grew, IsSearched, IsSearching}
+use Rattle.wh_flow.specs.Masks.{IsMaskOf}
 use Rattle.wh_flow.proofs.Sums.{sum-le, sum-less}
-use Rattle.wh_flow.proofs.Successors.{successor_in}
+use Rattle.wh_flow.proofs.Masks.{mask_has}
 
 -- ---- sets of seen letters
 pub grew_fewer : (old new : ℕ) → Grew old new → unseen new ≤ unseen old
@@ -89,12 +90,12 @@ module _ (cap flow : List ℕ) (old : ℕ) (from v t : ℕ) where
   }
 
   -- All letters to which residual edges lead from v were seen.
-  pub searching_ends : (now successors : ℕ) → AreSuccessors successors cap flow from v → IsAllSeen successors now → IsSearching cap flow old now from v t → IsSearched cap flow old now from v t
+  pub searching_ends : (now successors : ℕ) → IsMaskOf successors (residual cap flow from v) → IsAllSeen successors now → IsSearching cap flow old now from v t → IsSearched cap flow old now from v t
   searching_ends now successors has all s = record {
     start = s.start;
     omits = s.omits;
     shut = λ x h n m z i r. elim (cases_eq x v) [
-      | inl e ↦ all z (omega (arith, i)) (successor_in cap flow successors from v z has i (subst (λ (k : ℕ). 0 < residual cap flow from k z) e r))
+      | inl e ↦ all z (omega (arith, i)) (mask_has successors (residual cap flow from v) z has i (subst (λ (k : ℕ). 0 < residual cap flow from k z) e r))
       | inr e ↦ s.shut x h e n m z i r
     ];
     least = s.least;

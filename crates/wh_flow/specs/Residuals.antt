@@ -1,9 +1,9 @@
 -- Residual networks: what may still flow over capacities and a flow, at the pairs from a place on.
-use Rattle.std.specs.Prelude.{◌≡◌, ◌≢◌, ℕ, ◌<◌, ◌≤◌, ltb, ◌&&◌, List, get_or}
+use Rattle.std.specs.Prelude.{◌≡◌, ◌≢◌, ℕ, ◌<◌, ◌≤◌, List}
 use Rattle.wh_words.specs.Limits.{most_letters}
-use Rattle.wh_words.specs.LetterSets.{in_set}
 use Rattle.wh_words.specs.Flows.{IsWithin, place}
 use Rattle.wh_flow.specs.Tables.{IsTable, cell}
+use Rattle.wh_flow.specs.Masks.{AreMasksOf}
 use Rattle.wh_flow.specs.Searches.{residual}
 
 -- Capacities, a flow, and the place from which on pairs have residual edges.
@@ -11,10 +11,6 @@ pub record ResidualNet : Type 0 where
   pub cap : List ℕ
   pub flow : List ℕ
   pub from : ℕ
-
--- The set of the letters to which residual edges lead from v.
-abbrev pub AreSuccessors : ℕ → List ℕ → List ℕ → ℕ → ℕ → Type 0
-AreSuccessors set cap flow from v = (y : ℕ) → y < 64 → in_set set y ≡ (ltb y 52 && ltb 0 (residual cap flow from v y))
 
 -- No number is above the most edges that a network has.
 abbrev pub IsLow : List ℕ → Type 0
@@ -25,12 +21,8 @@ pub record IsResidualNet (cap flow : List ℕ) (from : ℕ) (masks : List ℕ) :
   pub low : IsLow cap
   pub table : IsTable flow
   pub within : IsWithin (cell cap) (cell flow)
-  pub successors : (v : ℕ) → v < 52 → AreSuccessors (get_or masks v 0) cap flow from v
+  pub successors : AreMasksOf masks (residual cap flow from)
 
 -- From the old flow to the new one, numbers changed between x and y at most.
 abbrev pub IsSameBut : List ℕ → List ℕ → ℕ → ℕ → Type 0
 IsSameBut old new x y = (u v : ℕ) → u < 52 → v < 52 → place u v ≢ place x y → place u v ≢ place y x → cell old u v ≡ cell new u v
-
--- The mask of each letter is the set of its neighbours: the letters that edges join to it.
-abbrev pub AreNeighbours : List ℕ → List ℕ → Type 0
-AreNeighbours masks cells = (v : ℕ) → v < 52 → (y : ℕ) → y < 64 → in_set (get_or masks v 0) y ≡ (ltb y 52 && ltb 0 (cell cells v y))

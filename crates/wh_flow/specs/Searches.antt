@@ -51,14 +51,6 @@ pub record IsLed (cap flow : List ℕ) (seen v x : ℕ) : Type 0 where
 abbrev pub IsShut : List ℕ → List ℕ → ℕ → (ℕ → Bool) → Type 0
 IsShut cap flow from set = (x y : ℕ) → x < 52 → y < 52 → set x ≡ true → 0 < residual cap flow from x y → set y ≡ true
 
--- A letter of a set that wasn't seen.
-abbrev pub IsFresh : ℕ → ℕ → ℕ → Type 0
-IsFresh set seen y = (y < 64) × ((in_set set y ≡ true) × (in_set seen y ≡ false))
-
--- All letters of a set were seen.
-abbrev pub IsAllSeen : ℕ → ℕ → Type 0
-IsAllSeen set seen = (y : ℕ) → y < 64 → in_set set y ≡ true → in_set seen y ≡ true
-
 -- The search from v didn't find t: what it saw is what v leads to.
 pub record IsSearched (cap flow : List ℕ) (old new from v t : ℕ) : Type 0 where
   pub start : in_set new v ≡ true

@@ -2,6 +2,7 @@
 ghost use Rattle.std.specs.Prelude.{◌≡◌, ◌+◌, ◌<◌, ◌≤◌, true, false};
 ghost use Rattle.wh_words.specs.Flows.{IsFlow, IsFirstFlow, HaveOneValue, AgreeBefore, place};
 ghost use Rattle.wh_flow.specs.Tables.{IsTable, cell};
+ghost use Rattle.wh_flow.specs.Searches.{IsOfLetters};
 ghost use Rattle.wh_flow.specs.Rerouting.{HaveOneNetFlow, IsLeastAt, IsFirstUpTo};
 
 use crate::flow::Flow;
@@ -29,18 +30,21 @@ pub fn least_flow(net: &Net, flow: &Flow, s: Letter, t: Letter) -> Flow
 /// Lowers the numbers of the first rows in turn.
 fn lower_all(residual: &mut ResidualNet, letters: usize)
     requires letters { letters ≤ 52 }
+    requires of_letters { IsOfLetters letters residual.old.cap }
     requires from { residual.old.from ≡ 0 }
     ensures cap { residual.new.cap ≡ residual.old.cap }
     ensures net { HaveOneNetFlow (cell residual.old.flow) (cell residual.new.flow) }
     ensures first { IsFirstUpTo (place letters 0) (cell residual.old.cap) (cell residual.new.flow) }
 {
     for x in 0..letters {
-        lower_row(residual, x);
+        lower_row(residual, letters, x);
     }
 }
 
-/// Lowers the numbers of a row in turn.
-fn lower_row(residual: &mut ResidualNet, x: usize)
+/// Lowers the numbers of a row in turn, to the letters that the network has.
+fn lower_row(residual: &mut ResidualNet, letters: usize, x: usize)
+    requires letters { letters ≤ 52 }
+    requires of_letters { IsOfLetters letters residual.old.cap }
     requires x_within { x < 52 }
     requires from { residual.old.from ≡ place x 0 }
     requires first { IsFirstUpTo (place x 0) (cell residual.old.cap) (cell residual.old.flow) }
@@ -49,10 +53,11 @@ fn lower_row(residual: &mut ResidualNet, x: usize)
     ensures net { HaveOneNetFlow (cell residual.old.flow) (cell residual.new.flow) }
     ensures first { IsFirstUpTo (place (x + 1) 0) (cell residual.old.cap) (cell residual.new.flow) }
 {
-    for y in 0..52 {
+    for y in 0..letters {
         residual.leave_out(x, y);
         lower(residual, x, y);
     }
+    residual.leave_out_empty(52 - letters);
 }
 
 /// Lowers the number at `x` and `y` as far as later pairs can make up for it.

@@ -6,7 +6,8 @@ ghost use Rattle.wh_words.specs.Edges.{joins};
 ghost use Rattle.wh_flow.specs.Tables.{IsTable, cell, zero_table};
 ghost use Rattle.wh_flow.specs.Nets.{edge_count, IsNet};
 ghost use Rattle.wh_flow.specs.Searches.{IsOfLetters};
-ghost use Rattle.wh_flow.specs.Residuals.{AreNeighbours, IsLow};
+ghost use Rattle.wh_flow.specs.Masks.{AreMasksOf};
+ghost use Rattle.wh_flow.specs.Residuals.{IsLow};
 
 use crate::table::Table;
 use std::marker::Model;
@@ -25,13 +26,14 @@ pub struct Net {
 impl Model for Net {
     ghost use Rattle.wh_flow.specs.Nets.{IsNet};
     ghost use Rattle.wh_flow.specs.Nets as spec;
-    ghost use Rattle.wh_flow.specs.Residuals.{AreNeighbours};
+    ghost use Rattle.wh_flow.specs.Tables.{cell};
+    ghost use Rattle.wh_flow.specs.Masks.{AreMasksOf};
 
     ghost Value = { spec.Net };
 
     ghost view = { λ n. record { rank = n.rank; cells = n.cells } };
 
-    ghost invariant = { λ n. IsNet (record { rank = n.rank; cells = n.cells }) × AreNeighbours n.neighbours n.cells };
+    ghost invariant = { λ n. IsNet (record { rank = n.rank; cells = n.cells }) × AreMasksOf n.neighbours (cell n.cells) };
 }
 
 impl Net {
@@ -76,9 +78,8 @@ impl Net {
     {
         let x = x.index() as usize;
         let y = y.index() as usize;
+        join(&self.cells, &mut self.neighbours, x, y);
         write_edge(&mut self.cells, x, y);
-        add_neighbour(&mut self.neighbours, x, y);
-        add_neighbour(&mut self.neighbours, y, x);
     }
 
     /// The capacities.
@@ -92,7 +93,7 @@ impl Net {
 
     /// The neighbours of each letter, as a mask.
     pub(crate) fn neighbours(&self) -> [u64; 52]
-        ensures { AreNeighbours result self.now.cells }
+        ensures { AreMasksOf result (cell self.now.cells) }
     {
         self.neighbours
     }
@@ -119,6 +120,23 @@ fn write_edge(cells: &mut Table, x: usize, y: usize)
 {
     cells.add(x, y, 1);
     cells.add(y, x, 1);
+}
+
+/// Makes two letters neighbours, where no edge joins them yet.
+fn join(cells: &Table, neighbours: &mut [u64], x: usize, y: usize)
+    requires x_within { x < 52 }
+    requires y_within { y < 52 }
+    requires apart { x ≢ y }
+    requires symmetric { cell cells.now x y ≡ cell cells.now y x }
+    requires size { length neighbours.old ≡ 52 }
+    requires masks { AreMasksOf neighbours.old (cell cells.now) }
+    ensures size { length neighbours.new ≡ 52 }
+    ensures masks { AreMasksOf neighbours.new (λ u v. cell cells.now u v + cond (joins u v (x, y)) 1 0) }
+{
+    if cells.get(x, y) == 0 {
+        add_neighbour(neighbours, x, y);
+        add_neighbour(neighbours, y, x);
+    }
 }
 
 /// Adds `y` to the neighbours of `x`.

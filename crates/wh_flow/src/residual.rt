@@ -2,9 +2,10 @@
 ghost use Rattle.std.specs.Prelude.{◌≡◌, ◌≢◌, ℕ, ◌+◌, ◌-◌, ◌<◌, ◌≤◌, ◌⊎◌, ltb, length, get_or};
 ghost use Rattle.wh_words.specs.LetterSets.{in_set};
 ghost use Rattle.wh_words.specs.Flows.{IsWithin, place};
-ghost use Rattle.wh_flow.specs.Tables.{IsTable, cell, zero_table, with_cell};
+ghost use Rattle.wh_flow.specs.Tables.{IsTable, cell, pair_count, zero_table, with_cell};
 ghost use Rattle.wh_flow.specs.Searches.{residual, goes_back, IsShifted};
-ghost use Rattle.wh_flow.specs.Residuals.{AreSuccessors, IsLow, IsSameBut};
+ghost use Rattle.wh_flow.specs.Masks.{IsMaskOf, AreMasksOf};
+ghost use Rattle.wh_flow.specs.Residuals.{IsLow, IsSameBut};
 
 use crate::flow::Flow;
 use crate::net::Net;
@@ -83,7 +84,7 @@ impl<'a> ResidualNet<'a> {
     /// The letters to which residual edges lead from `v`.
     pub fn successors(&self, v: usize) -> LetterSet
         requires { v < 52 }
-        ensures successors { AreSuccessors result self.now.cap self.now.flow self.now.from v }
+        ensures successors { IsMaskOf result (residual self.now.cap self.now.flow self.now.from v) }
         ensures within { IsWithin (cell self.now.cap) (cell self.now.flow) }
     {
         LetterSet::of_bits(self.successors[v])
@@ -125,6 +126,16 @@ impl<'a> ResidualNet<'a> {
         note_edge(self.cap, &self.flow, self.from, &mut self.successors, y, x);
     }
 
+    /// Leaves out the next pairs, at which nothing may flow.
+    pub fn leave_out_empty(&mut self, pairs: usize)
+        requires fits { self.old.from + pairs ≤ pair_count }
+        requires empty { (x y : ℕ) → x < 52 → y < 52 → self.old.from ≤ place x y → place x y < self.old.from + pairs → cell self.old.cap x y ≡ 0 }
+        ensures within { IsWithin (cell self.old.cap) (cell self.old.flow) }
+        ensures same { self.new ≡ record { cap = self.old.cap; flow = self.old.flow; from = self.old.from + pairs } }
+    {
+        self.from += pairs;
+    }
+
     /// Lets `d` less flow from `x` to `y`, a pair that was left out.
     pub fn lower(&mut self, x: usize, y: usize, d: u32)
         requires x_within { x < 52 }
@@ -145,7 +156,7 @@ fn write_successors(cap: &Table, flow: &Table, successors: &mut [u64])
     requires size { length successors.old ≡ 52 }
     requires within { IsWithin (cell cap.now) (cell flow.now) }
     ensures size { length successors.new ≡ 52 }
-    ensures successors { (v : ℕ) → v < 52 → AreSuccessors (get_or successors.new v 0) cap.now flow.now 0 v }
+    ensures successors { AreMasksOf successors.new (residual cap.now flow.now 0) }
 {
     for v in 0..52 {
         successors[v] = successors_of(cap, flow, v).bits();
@@ -156,7 +167,7 @@ fn write_successors(cap: &Table, flow: &Table, successors: &mut [u64])
 pub(crate) fn successors_of(cap: &Table, flow: &Table, v: usize) -> LetterSet
     requires v_within { v < 52 }
     requires within { IsWithin (cell cap.now) (cell flow.now) }
-    ensures { AreSuccessors result cap.now flow.now 0 v }
+    ensures { IsMaskOf result (residual cap.now flow.now 0 v) }
 {
     let mut successors = LetterSet::empty();
     for y in 0..52 {

@@ -2,7 +2,8 @@
 ghost use Rattle.std.specs.Prelude.{◌≡◌, ◌≢◌, ℕ, ◌<◌, ◌≤◌, true, false, MatchOption};
 ghost use Rattle.std.specs.Int.{bit_at};
 ghost use Rattle.wh_words.specs.LetterSets.{in_set};
-ghost use Rattle.wh_flow.specs.Searches.{Grew, IsFresh, IsAllSeen, IsPushed, IsSearched};
+ghost use Rattle.wh_flow.specs.Masks.{IsFresh, IsAllSeen};
+ghost use Rattle.wh_flow.specs.Searches.{Grew, IsPushed, IsSearched};
 
 use crate::residual::ResidualNet;
 use wh_words::{Letter, LetterSet};

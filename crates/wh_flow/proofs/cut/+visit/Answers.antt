@@ -2,9 +2,9 @@ use Rattle.std.proofs.Common.{◌≡◌, ◌≢◌, ℕ, arith, sym, subst, ◌�
 use Rattle.std.specs.Int.{bit_at}
 use Rattle.std.proofs.lemmas.Bool.{cases_Bool, cases_eq, true≢false}
 use Rattle.wh_words.specs.LetterSets.{in_set}
-use Rattle.wh_flow.specs.Searches.{IsLed}
+use Rattle.wh_flow.specs.Searches.{residual, IsLed}
 use Rattle.wh_flow.proofs.Pushes.{led_here, led_on}
-use Rattle.wh_flow.proofs.Successors.{successor_leads}
+use Rattle.wh_flow.proofs.Masks.{mask_leads}
 use Rattle.wh_flow.proofs.Searching.{searching_starts, searching_more, searching_ends, marked_other, marked_grew, marked_fewer, grew_fewer, searched_fewer}
 use Rattle.wh_flow.proofs.cut.+visit.Goals as goal
 
@@ -26,11 +26,11 @@ loop-y-init t c =
 
 pub loop-y-smaller : goal.loop-y-smaller
 loop-y-smaller t c = searched_fewer c.loop-y.seen c.visit.new.seen c.in-Some.y
-    (successor_leads c.args.cap.now c.args.flow.now c.successors_of-successors.result 0 c.args.v c.in-Some.y c.successors_of-successors.ensures c.in-Some.ensures.0 c.in-Some.ensures.1.0).0 c.in-Some.ensures.1.1 c.visit.ensures.searched.start c.visit.ensures.grew
+    (mask_leads c.successors_of-successors.result (residual c.args.cap.now c.args.flow.now 0 c.args.v) c.in-Some.y c.successors_of-successors.ensures c.in-Some.ensures.0 c.in-Some.ensures.1.0).0 c.in-Some.ensures.1.1 c.visit.ensures.searched.start c.visit.ensures.grew
 
 pub loop-y-preserved : goal.loop-y-preserved
 loop-y-preserved t c =
-    let there = successor_leads c.args.cap.now c.args.flow.now c.successors_of-successors.result 0 c.args.v c.in-Some.y c.successors_of-successors.ensures c.in-Some.ensures.0 c.in-Some.ensures.1.0 in
+    let there = mask_leads c.successors_of-successors.result (residual c.args.cap.now c.args.flow.now 0 c.args.v) c.in-Some.y c.successors_of-successors.ensures c.in-Some.ensures.0 c.in-Some.ensures.1.0 in
     record {
       grew = λ z b. c.visit.ensures.grew z (c.loop-y.invariant.grew z b);
       fewer = omega (arith, grew_fewer c.loop-y.seen c.visit.new.seen c.visit.ensures.grew, c.loop-y.invariant.fewer);

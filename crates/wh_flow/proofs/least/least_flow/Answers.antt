@@ -22,3 +22,6 @@ returns-clause-first c =
     let of_letters : IsOfLetters c.letters.result c.args.net.now.cells = subst (λ (k : ℕ). IsOfLetters k c.args.net.now.cells) (sym c.letters.ensures.value) c.letters.ensures.of_letters in
     first_done (cell c.args.net.now.cells) (cell c.args.flow.now) (cell c.into_flow.result) c.args.s c.args.t c.index-2.ensures.below c.requires.flow within net
     (first_past c.letters.result (place c.letters.result 0) pair_count c.args.net.now.cells c.into_flow.result of_letters within first (λ u v h i k l. inl (omega (arith, h, i, k))))
+
+pub lower_all-requires-clause-of_letters : goal.lower_all-requires-clause-of_letters
+lower_all-requires-clause-of_letters c = rw (c.letters.ensures.value, c.of-residual.ensures) c.letters.ensures.of_letters

@@ -1,7 +1,7 @@
 use Rattle.std.proofs.Common.{◌≡◌, ◌+◌, ◌∙◌, arith, sym, subst, ℕ}
 use Rattle.std.specs.Int.{bit_at}
 use Rattle.wh_flow.specs.Searches.{residual}
-use Rattle.wh_flow.proofs.Successors.{IsSetBelow, set_none, set_with, set_without}
+use Rattle.wh_flow.proofs.Masks.{IsSetBelow, set_none, set_with, set_without}
 use Rattle.wh_flow.proofs.residual.successors_of.Goals as goal
 use Rattle.wh_flow.proofs.residual.successors_of.Goals.{then-residual_capacity-gt0, else-residual_capacity-gt0}
 

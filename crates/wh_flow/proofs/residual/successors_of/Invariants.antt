@@ -1,5 +1,5 @@
 use Rattle.wh_flow.specs.Searches.{residual}
-use Rattle.wh_flow.proofs.Successors.{IsSetBelow}
+use Rattle.wh_flow.proofs.Masks.{IsSetBelow}
 use Rattle.wh_flow.proofs.residual.successors_of.Given as goal
 
 abbrev pub invariant-loop-y : goal.invariant-loop-y

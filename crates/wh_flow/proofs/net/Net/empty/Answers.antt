@@ -1,5 +1,5 @@
 use Rattle.wh_flow.proofs.NetEdges.{empty_net, empty_count}
-use Rattle.wh_flow.proofs.NotedEdges.{no_neighbours}
+use Rattle.wh_flow.proofs.Neighbours.{no_neighbours}
 use Rattle.wh_flow.proofs.net.Net.empty.Goals as goal
 
 pub invariant_of-result : goal.invariant_of-result

@@ -1,7 +1,8 @@
 use Rattle.std.proofs.Common.{◌≡◌, ◌+◌, ap, ◌∙◌}
 use Rattle.wh_flow.specs.Searches.{residual}
 use Rattle.wh_flow.specs.Residuals.{ResidualNet}
-use Rattle.wh_flow.proofs.NotedEdges.{noted, left_out_agrees}
+use Rattle.wh_flow.proofs.Masks.{noted}
+use Rattle.wh_flow.proofs.ResidualNets.{left_out_agrees}
 use Rattle.wh_flow.proofs.residual.ResidualNet.leave_out.Goals as goal
 use Rattle.wh_words.specs.Flows.{place}
 

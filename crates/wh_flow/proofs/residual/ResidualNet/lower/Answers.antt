@@ -1,7 +1,7 @@
 use Rattle.std.proofs.Common.{subst, sym, ◌<◌, ◌≤◌}
 use Rattle.wh_flow.specs.Tables.{cell}
 use Rattle.wh_flow.specs.Residuals.{ResidualNet}
-use Rattle.wh_flow.proofs.NotedEdges.{lowered_residual}
+use Rattle.wh_flow.proofs.ResidualNets.{lowered_residual}
 use Rattle.wh_flow.proofs.residual.ResidualNet.lower.Goals as goal
 use Rattle.wh_words.specs.Flows.{place}
 

@@ -1,5 +1,6 @@
 use Rattle.wh_flow.specs.Searches.{residual}
-use Rattle.wh_flow.proofs.NotedEdges.{noted, shift_agrees}
+use Rattle.wh_flow.proofs.Masks.{noted}
+use Rattle.wh_flow.proofs.ResidualNets.{shift_agrees}
 use Rattle.wh_flow.proofs.residual.ResidualNet.shift.Goals as goal
 
 pub invariant_of-self : goal.invariant_of-self

@@ -1,5 +1,5 @@
 use Rattle.std.proofs.Common.{refl}
-use Rattle.wh_flow.proofs.NotedEdges.{residual_without_flow}
+use Rattle.wh_flow.proofs.ResidualNets.{residual_without_flow}
 use Rattle.wh_flow.proofs.residual.ResidualNet.without_flow.Goals as goal
 
 pub invariant_of-result : goal.invariant_of-result

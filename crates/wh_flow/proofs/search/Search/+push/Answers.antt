@@ -3,7 +3,7 @@ use Rattle.wh_words.specs.LetterSets.{in_set}
 use Rattle.wh_flow.specs.Searches.{residual, IsPushed, IsShifted, IsSearched}
 use Rattle.wh_flow.specs.Residuals.{ResidualNet}
 use Rattle.wh_flow.proofs.Pushes.{pushed_on, residual_kept}
-use Rattle.wh_flow.proofs.Successors.{successor_leads}
+use Rattle.wh_flow.proofs.Masks.{mask_leads}
 use Rattle.wh_flow.proofs.Searching.{searching_starts, searching_more, searching_ends, marked_grew, marked_fewer, grew_fewer, searched_fewer}
 use Rattle.wh_flow.proofs.search.Search.+push.Goals as goal
 
@@ -19,12 +19,12 @@ loop-y-init t c = record {
 
 pub loop-y-smaller : goal.loop-y-smaller
 loop-y-smaller t c = searched_fewer c.loop-y.self.seen c.push-d.new.self.seen c.in-Some.y
-    (successor_leads c.args.residual.now.cap c.args.residual.now.flow c.successors-successors.result c.args.residual.now.from c.args.v c.in-Some.y c.successors-successors.ensures.successors c.in-Some.ensures.0 c.in-Some.ensures.1.0).0
+    (mask_leads c.successors-successors.result (residual c.args.residual.now.cap c.args.residual.now.flow c.args.residual.now.from c.args.v) c.in-Some.y c.successors-successors.ensures.successors c.in-Some.ensures.0 c.in-Some.ensures.1.0).0
     c.in-Some.ensures.1.1 (c.push-d.ensures.searched (omega (arith, c.if-d-gt0.false))).start c.push-d.ensures.grew
 
 pub push-d-requires : goal.push-d-requires
 push-d-requires t c =
-    let lead = successor_leads c.args.residual.now.cap c.args.residual.now.flow c.successors-successors.result c.args.residual.now.from c.args.v c.in-Some.y c.successors-successors.ensures.successors c.in-Some.ensures.0 c.in-Some.ensures.1.0 in
+    let lead = mask_leads c.successors-successors.result (residual c.args.residual.now.cap c.args.residual.now.flow c.args.residual.now.from c.args.v) c.in-Some.y c.successors-successors.ensures.successors c.in-Some.ensures.0 c.in-Some.ensures.1.0 in
     let there : 0 < residual c.loop-y.residual.cap c.loop-y.residual.flow c.loop-y.residual.from c.args.v c.in-Some.y =
     subst (λ (r : ResidualNet). 0 < residual r.cap r.flow r.from c.args.v c.in-Some.y) (sym c.loop-y.invariant.same) lead.1 in
     let within : c.in-Some.y < 52 = lead.0 in
@@ -34,7 +34,7 @@ push-d-requires t c =
 
 pub shift-requires-clause-fits : goal.shift-requires-clause-fits
 shift-requires-clause-fits t c =
-    let lead = successor_leads c.args.residual.now.cap c.args.residual.now.flow c.successors-successors.result c.args.residual.now.from c.args.v c.in-Some.y c.successors-successors.ensures.successors c.in-Some.ensures.0 c.in-Some.ensures.1.0 in
+    let lead = mask_leads c.successors-successors.result (residual c.args.residual.now.cap c.args.residual.now.flow c.args.residual.now.from c.args.v) c.in-Some.y c.successors-successors.ensures.successors c.in-Some.ensures.0 c.in-Some.ensures.1.0 in
     let kept : residual c.loop-y.residual.cap c.loop-y.residual.flow c.loop-y.residual.from c.args.v c.in-Some.y ≡ residual c.loop-y.residual.cap c.push-d.new.residual.flow c.loop-y.residual.from c.args.v c.in-Some.y =
     residual_kept c.loop-y.residual.cap c.loop-y.residual.flow c.push-d.new.residual.flow c.loop-y.self.seen c.loop-y.residual.from c.args.v c.in-Some.y c.loop-y.self.sink c.push-d.result
     c.requires.v_within lead.0 c.loop-y.invariant.searching.start (c.push-d.ensures.pushed c.if-d-gt0.true) in
@@ -47,7 +47,7 @@ returns-then-d-gt0-clause-grew t c = λ y b. c.push-d.ensures.grew y (c.loop-y.i
 
 pub returns-then-d-gt0-clause-pushed : goal.returns-then-d-gt0-clause-pushed
 returns-then-d-gt0-clause-pushed t c h =
-    let lead = successor_leads c.args.residual.now.cap c.args.residual.now.flow c.successors-successors.result c.args.residual.now.from c.args.v c.in-Some.y c.successors-successors.ensures.successors c.in-Some.ensures.0 c.in-Some.ensures.1.0 in
+    let lead = mask_leads c.successors-successors.result (residual c.args.residual.now.cap c.args.residual.now.flow c.args.residual.now.from c.args.v) c.in-Some.y c.successors-successors.ensures.successors c.in-Some.ensures.0 c.in-Some.ensures.1.0 in
     let cap : c.push-d.new.residual.cap ≡ c.args.residual.now.cap = c.push-d.ensures.cap ∙ ap (λ (r : ResidualNet). r.cap) c.loop-y.invariant.same in
     let from : c.push-d.new.residual.from ≡ c.args.residual.now.from = c.push-d.ensures.from ∙ ap (λ (r : ResidualNet). r.from) c.loop-y.invariant.same in
     let pushed : IsPushed c.args.residual.now.cap c.args.residual.now.flow c.push-d.new.residual.flow c.loop-y.self.seen c.args.residual.now.from c.in-Some.y c.args.self.now.sink c.push-d.result =
@@ -63,7 +63,7 @@ returns-then-d-gt0-clause-pushed t c h =
 pub loop-y-preserved : goal.loop-y-preserved
 loop-y-preserved t c =
     let none : c.push-d.result ≡ 0 = omega (arith, c.if-d-gt0.false) in
-    let lead = successor_leads c.args.residual.now.cap c.args.residual.now.flow c.successors-successors.result c.args.residual.now.from c.args.v c.in-Some.y c.successors-successors.ensures.successors c.in-Some.ensures.0 c.in-Some.ensures.1.0 in
+    let lead = mask_leads c.successors-successors.result (residual c.args.residual.now.cap c.args.residual.now.flow c.args.residual.now.from c.args.v) c.in-Some.y c.successors-successors.ensures.successors c.in-Some.ensures.0 c.in-Some.ensures.1.0 in
     let searched : IsSearched c.args.residual.now.cap c.args.residual.now.flow c.loop-y.self.seen c.push-d.new.self.seen c.args.residual.now.from c.in-Some.y c.args.self.now.sink =
     subst (λ (r : ResidualNet). IsSearched r.cap r.flow c.loop-y.self.seen c.push-d.new.self.seen r.from c.in-Some.y c.args.self.now.sink) c.loop-y.invariant.same
     (subst (λ (k : ℕ). IsSearched c.loop-y.residual.cap c.loop-y.residual.flow c.loop-y.self.seen c.push-d.new.self.seen c.loop-y.residual.from c.in-Some.y k) c.loop-y.invariant.sink (c.push-d.ensures.searched none)) in
