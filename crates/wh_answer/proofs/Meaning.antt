@@ -11,7 +11,7 @@ use Rattle.wh_words.specs.Traces.{IsFlat}
 use Rattle.wh_words.specs.Flows.{HasValue}
 use Rattle.wh_words.specs.Levels.{InLevel, Reaches}
 use Rattle.wh_words.specs.Levels.Reaches.{here, step}
-use Rattle.wh_flow.specs.Nets.{cell}
+use Rattle.wh_flow.specs.Tables.{cell}
 use Rattle.wh_reduce.proofs.Certificates.{flows_flat}
 use Rattle.wh_text.specs.AnswerData.{SideData}
 use Rattle.wh_text.specs.AnswerData.VerdictData.{yes, no_length, no_level, undecided}

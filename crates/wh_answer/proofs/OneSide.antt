@@ -6,7 +6,7 @@ use Rattle.wh_words.specs.Moves.{Move}
 use Rattle.wh_words.specs.CapacityTraces.{IsCapacityTrace}
 use Rattle.wh_words.specs.Flows.{outflow, inflow}
 use Rattle.wh_words.proofs.MoveLaws.{trace_unique}
-use Rattle.wh_flow.specs.Nets.{cell}
+use Rattle.wh_flow.specs.Tables.{cell}
 use Rattle.wh_flow.proofs.Sums.{sum-same}
 use Rattle.wh_graph.proofs.Agreement.{traces_agree}
 use Rattle.wh_reduce.specs.FlowLists.{AreFlows}

@@ -18,7 +18,7 @@ use Rattle.wh_words.specs.Levels.{Reaches}
 use Rattle.wh_words.specs.Levels.Reaches.{here, step as further}
 use Rattle.wh_words.proofs.ImageLetters.{act_tuple}
 use Rattle.wh_moves.proofs.InverseMoves.{inverse_is_move}
-use Rattle.wh_flow.specs.Nets.{cell}
+use Rattle.wh_flow.specs.Tables.{cell}
 use Rattle.wh_graph.specs.Laws.{JoinsTwo}
 use Rattle.wh_graph.proofs.EdgeCounts.{one, count-cons, edges_join, edges_length}
 use Rattle.wh_reduce.specs.FlowLists.{AreFlows}
@@ -88,7 +88,7 @@ edge_ends n x y (e ∷ es) are h = elim (cases_Bool (joins x y e)) [
 
 pub flow_of_generator : (t : TupleData) (flows : List (List ℕ)) (g : ℕ) → IsTuple t → AreFlows t flows → g < t.rank → IsFlowOf t.rank g (get_or flows g [])
 flow_of_generator t flows g is are low = record {
-  size = are.sizes g [] (omega (arith, low, are.count));
+  table = are.tables g [] (omega (arith, low, are.count));
   small = λ x y l m. omega (arith, within x y l m, count_by-le-length (joins x y) (edges t), edges_length t, is.short);
   of_rank = λ x y l m h. edge_ends t.rank x y (edges t) (edges_join t is) (omega (arith, h, within x y l m));
   value = (flows_have_lines t flows is are).values g low;

@@ -11,7 +11,7 @@ use Rattle.wh_words.specs.LetterSets.{in_set}
 use Rattle.wh_words.specs.Tuples.{TupleData, tuple_length}
 use Rattle.wh_words.specs.Moves.{Move, Kind, IsKind}
 use Rattle.wh_words.specs.Moves.Kind.{swap, invert, cut}
-use Rattle.wh_flow.specs.Nets.{cell}
+use Rattle.wh_flow.specs.Tables.{cell}
 use Rattle.wh_lines.specs.Rows.{fields_text, row_text, rows_text, number_row}
 use Rattle.wh_fields.specs.Repeated.{below}
 use Rattle.wh_fields.specs.Words.{letter_text, word_text}

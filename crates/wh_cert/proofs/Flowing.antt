@@ -8,7 +8,8 @@ use Rattle.wh_words.specs.Tuples.{TupleData, IsTuple}
 use Rattle.wh_words.specs.Edges.{deg}
 use Rattle.wh_words.specs.Flows.{IsFlow, HasValue, outflow, inflow, degree}
 use Rattle.wh_words.specs.TupleFlows.{edge_table}
-use Rattle.wh_flow.specs.Nets.{Net, cell}
+use Rattle.wh_flow.specs.Tables.{cell}
+use Rattle.wh_flow.specs.Nets.{Net}
 use Rattle.wh_graph.specs.Graphs.{IsGraph}
 use Rattle.wh_graph.proofs.EdgeTables.{graph_degree}
 use Rattle.wh_text.specs.AnswerData.{SideData}

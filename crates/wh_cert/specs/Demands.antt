@@ -9,7 +9,7 @@ use Rattle.wh_words.specs.Levels.{IsLevelMove}
 use Rattle.wh_words.specs.Edges.{deg}
 use Rattle.wh_words.specs.Flows.{IsFlow, HasValue}
 use Rattle.wh_words.specs.TupleFlows.{edge_table}
-use Rattle.wh_flow.specs.Nets.{cell}
+use Rattle.wh_flow.specs.Tables.{cell}
 use Rattle.wh_moves.specs.Acts.{FitsOnTheWay}
 use Rattle.wh_text.specs.AnswerData.{SideData, VerdictData, AnswerData}
 use Rattle.wh_text.specs.AnswerData.VerdictData.{yes, no_length, no_level, undecided}

@@ -4,7 +4,7 @@ ghost use Rattle.std.specs.List.{All};
 ghost use Rattle.wh_words.specs.Limits.{most_rank};
 ghost use Rattle.wh_words.specs.Tuples.{TupleData, IsTuple};
 ghost use Rattle.wh_words.specs.Flows.{HasValue};
-ghost use Rattle.wh_flow.specs.Nets.{cell};
+ghost use Rattle.wh_flow.specs.Tables.{cell};
 ghost use Rattle.wh_graph.specs.Graphs.{IsGraph};
 ghost use Rattle.wh_text.specs.AnswerData.{side_of};
 ghost use Rattle.wh_text.specs.Numberings.{IsSideOfRank};

@@ -1,6 +1,6 @@
 -- A flow is read exactly from the fields that tell it: for the law on flows.
-use Rattle.std.proofs.Common.{◌≡◌, ℕ, ◌+◌, ◌*◌, ◌^◌, ◌<◌, ◌≤◌, ◌==◌, ltb, Bool, true, false, cond, List, [], ◌∷◌, map, replicate, refl, sym, ap, ◌∙◌, subst, arith, None, Some}
-use Rattle.std.specs.Prelude.{◌&&◌, leb, not, decimal, slice_set}
+use Rattle.std.proofs.Common.{◌≡◌, ℕ, ◌+◌, ◌*◌, ◌^◌, ◌<◌, ◌≤◌, ◌==◌, ltb, Bool, true, false, cond, List, [], ◌∷◌, map, refl, sym, ap, ◌∙◌, subst, arith, None, Some}
+use Rattle.std.specs.Prelude.{◌&&◌, leb, not, decimal}
 use Rattle.std.specs.declared.option.Option.{Option}
 use Rattle.std.specs.Option.{option_and_then}
 use Rattle.std.specs.List.{All}
@@ -19,6 +19,7 @@ use Rattle.wh_fields.specs.Laws.{pair_text, IsPairOf, PairsRise, with_pairs, IsF
 use Rattle.wh_fields.proofs.WordReadings.{letter_is}
 use Rattle.wh_fields.proofs.WordLaws.{letter_back}
 use Rattle.wh_fields.proofs.ReadFlows.{pair_back}
+use Rattle.wh_flow.specs.Tables.{zero_table, with_cell}
 
 -- ---- pairs
 -- bytes that spell a pair
@@ -84,11 +85,11 @@ pairs_of : (n least : ℕ) (table : List ℕ) (fs : List Field) (told : List ℕ
 unfolding table_from
 pairs_of n least table [] told h e = record { pairs = []; of_rank = All-nil (IsPairOf n); rise = tt; spelled = refl; table = sym (some_is table told e) }
 pairs_of n least table (f ∷ fs) told h e =
-    option_and_then_some (λ p. table_from n (slice_set table (place p.from p.to) p.amount) (place p.from p.to + 1) fs) (pair_from least (pair_in n f.bytes)) told e
+    option_and_then_some (λ p. table_from n (with_cell table p.from p.to p.amount) (place p.from p.to + 1) fs) (pair_from least (pair_in n f.bytes)) told e
     (λ p first rest.
     let low = rising_told least (pair_in n f.bytes) p first in
     let is = pair_told n f.bytes p h low.0 in
-    let r = pairs_of n (place p.from p.to + 1) (slice_set table (place p.from p.to) p.amount) fs told h rest in
+    let r = pairs_of n (place p.from p.to + 1) (with_cell table p.from p.to p.amount) fs told h rest in
     record {
       pairs = p ∷ r.pairs;
       of_rank = All-cons (IsPairOf n) p r.pairs is.is r.of_rank;
@@ -106,9 +107,9 @@ pairs_back n least table (f ∷ fs) (p ∷ ps) h e a r =
     let here : f.bytes ≡ pair_text p = (cc) in
     let later : map (λ f. f.bytes) fs ≡ map pair_text ps = (cc) in
     let is = All-head (IsPairOf n) p ps a in
-    ap (λ o. option_and_then (λ q. table_from n (slice_set table (place q.from q.to) q.amount) (place q.from q.to + 1) fs) (pair_from least o)) (pair_back n p.from p.to p.amount f.bytes here h is.from is.to is.differ is.some is.small)
-    ∙ ap (option_and_then (λ q. table_from n (slice_set table (place q.from q.to) q.amount) (place q.from q.to + 1) fs)) (cond-true (leb least (place p.from p.to)) (Some p) None (grind (arith, nat_tests)))
-    ∙ pairs_back n (place p.from p.to + 1) (slice_set table (place p.from p.to) p.amount) fs ps h later (All-tail (IsPairOf n) p ps a) r.1
+    ap (λ o. option_and_then (λ q. table_from n (with_cell table q.from q.to q.amount) (place q.from q.to + 1) fs) (pair_from least o)) (pair_back n p.from p.to p.amount f.bytes here h is.from is.to is.differ is.some is.small)
+    ∙ ap (option_and_then (λ q. table_from n (with_cell table q.from q.to q.amount) (place q.from q.to + 1) fs)) (cond-true (leb least (place p.from p.to)) (Some p) None (grind (arith, nat_tests)))
+    ∙ pairs_back n (place p.from p.to + 1) (with_cell table p.from p.to p.amount) fs ps h later (All-tail (IsPairOf n) p ps a) r.1
 
 -- ---- flows
 letter_told : (n : ℕ) (bs : List ℕ) (x : ℕ) → n ≤ 26 → letter_in n bs ≡ Some x → (bs ≡ letter_text x ∷ []) × (x < 2 * n)
@@ -129,14 +130,14 @@ unfolding flow_in
 flow_is n [] told h e = absurd (cc)
 flow_is n (f ∷ []) told h e = absurd (cc)
 flow_is n (f ∷ g ∷ fs) told h e =
-    option_and_then_some (λ x. option_and_then (λ v. option_and_then (λ table. Some (record { head = (x, v); table = table })) (table_from n (replicate 2704 0) 0 fs)) (small (number g.bytes))) (letter_in n f.bytes) told e
-    (λ x first rest. option_and_then_some (λ v. option_and_then (λ table. Some (record { head = (x, v); table = table })) (table_from n (replicate 2704 0) 0 fs)) (small (number g.bytes)) told rest
-    (λ v second later. option_and_then_some (λ table. Some (record { head = (x, v); table = table })) (table_from n (replicate 2704 0) 0 fs) told later
+    option_and_then_some (λ x. option_and_then (λ v. option_and_then (λ table. Some (record { head = (x, v); table = table })) (table_from n zero_table 0 fs)) (small (number g.bytes))) (letter_in n f.bytes) told e
+    (λ x first rest. option_and_then_some (λ v. option_and_then (λ table. Some (record { head = (x, v); table = table })) (table_from n zero_table 0 fs)) (small (number g.bytes)) told rest
+    (λ v second later. option_and_then_some (λ table. Some (record { head = (x, v); table = table })) (table_from n zero_table 0 fs) told later
     (λ table third made.
     let letter = letter_told n f.bytes x h first in
     let value = small_told (number g.bytes) v second in
     let digits : g.bytes ≡ decimal v = ((reads_numbers g.bytes v).0 value.0).0 in
-    let r = pairs_of n 0 (replicate 2704 0) fs table h third in
+    let r = pairs_of n 0 zero_table fs table h third in
     subst (IsFlowLine n (f.bytes ∷ g.bytes ∷ map (λ f. f.bytes) fs)) (some_is (record { head = (x, v); table = table }) told made) (record {
       letter = letter.1;
       value = value.1;
@@ -147,13 +148,13 @@ flow_is n (f ∷ g ∷ fs) told h e =
       table = r.table;
     }))))
 
-flow_from : (n : ℕ) (told : FlowData) (letter value : Field) (fs : List Field) → letter_in n letter.bytes ≡ Some told.head.0 → small (number value.bytes) ≡ Some told.head.1 → table_from n (replicate 2704 0) 0 fs ≡ Some told.table →
+flow_from : (n : ℕ) (told : FlowData) (letter value : Field) (fs : List Field) → letter_in n letter.bytes ≡ Some told.head.0 → small (number value.bytes) ≡ Some told.head.1 → table_from n zero_table 0 fs ≡ Some told.table →
     flow_in n (letter ∷ value ∷ fs) ≡ Some told
 unfolding flow_in
 flow_from n told letter value fs a b c =
     let made : ℕ → ℕ → Option (List ℕ) → Option FlowData = λ x v. option_and_then (λ table. Some (record { head = (x, v); table = table })) in
-    ap (option_and_then (λ x. option_and_then (λ v. made x v (table_from n (replicate 2704 0) 0 fs)) (small (number value.bytes)))) a
-    ∙ ap (option_and_then (λ v. made told.head.0 v (table_from n (replicate 2704 0) 0 fs))) b
+    ap (option_and_then (λ x. option_and_then (λ v. made x v (table_from n zero_table 0 fs)) (small (number value.bytes)))) a
+    ∙ ap (option_and_then (λ v. made told.head.0 v (table_from n zero_table 0 fs))) b
     ∙ ap (made told.head.0 told.head.1) c
 
 flow_back : (n : ℕ) (fs : List Field) (told : FlowData) → n ≤ 26 → IsFlowLine n (map (λ f. f.bytes) fs) told → flow_in n fs ≡ Some told
@@ -165,7 +166,7 @@ flow_back n fs told h is =
     ap (flow_in n) (s.2 ∙ ap (λ gs. s.0 ∷ gs) t.2)
     ∙ flow_from n told s.0 t.0 t.1 (ap (letter_in n) s.3 ∙ letter_back n x h is.letter)
     (ap small ((reads_numbers t.0.bytes v).1 (t.3, omega (arith, is.value))) ∙ cond-true (ltb v (2 ^ 32)) (Some v) None (lt-ltb v (2 ^ 32) is.value))
-    (pairs_back n 0 (replicate 2704 0) t.1 is.pairs h t.4 is.of_rank is.rise ∙ ap (λ w. Some w) (sym is.table))
+    (pairs_back n 0 zero_table t.1 is.pairs h t.4 is.of_rank is.rise ∙ ap (λ w. Some w) (sym is.table))
 
 pub reads_flows : ReadsFlows
 reads_flows n fs told h = (flow_is n fs told h, flow_back n fs told h)

@@ -1,5 +1,5 @@
 -- A flow is read back from the fields of its line: for the law on printed answers.
-use Rattle.std.proofs.Common.{◌≡◌, ◌≢◌, ℕ, zero, suc, ◌+◌, ◌-◌, ◌*◌, ◌/◌, ◌%◌, ◌^◌, ◌<◌, ◌≤◌, ◌==◌, leb, ltb, Bool, true, false, List, [], ◌∷◌, ◌++◌, length, map, get_or, replicate, sym, ap, ◌∙◌, refl, subst, arith, None, Some, inl, inr, length-set, get_or-set_other, ext_get_or, append_assoc, append-nil}
+use Rattle.std.proofs.Common.{◌≡◌, ◌≢◌, ℕ, zero, suc, ◌+◌, ◌-◌, ◌*◌, ◌/◌, ◌%◌, ◌^◌, ◌<◌, ◌≤◌, ◌==◌, leb, ltb, Bool, true, false, List, [], ◌∷◌, ◌++◌, map, get_or, replicate, sym, ap, ◌∙◌, refl, subst, arith, None, Some, inl, inr, length-set, get_or-set_other, ext_get_or, append_assoc, append-nil}
 use Rattle.std.specs.Prelude.{◌&&◌, ◌||◌, not, codes, decimal, slice_set}
 use Rattle.std.specs.declared.option.Option.{Option}
 use Rattle.std.specs.Option.{option_and_then}
@@ -8,7 +8,7 @@ use Rattle.std.proofs.lemmas.Grind.{get_or-set_at}
 use Rattle.std.proofs.lemmas.Bool.{cases_Bool, cases_eq, or_cases, cond-true, cond-false, eqb-true, eqb-false, lt-ltb, false≢true}
 use Rattle.std.proofs.lemmas.Bool.Decides.{nat_tests}
 use Rattle.wh_words.specs.Flows.{place}
-use Rattle.wh_flow.specs.Nets.{cell}
+use Rattle.wh_flow.specs.Tables.{pair_count, cell, IsTable, zero_table, with_cell}
 use Rattle.wh_lines.specs.Lines.{Field}
 use Rattle.wh_lines.specs.Numbers.{number}
 use Rattle.wh_fields.specs.Words.{letter_of, letter_text}
@@ -35,7 +35,7 @@ rising_pair n x y v least bs e h = ap (pair_from least) e ∙ cond-true (leb lea
 -- ---- tables
 -- the table has what the flow f has before a place, and 0 from there on
 record IsPart (f : List ℕ) (i : ℕ) (table : List ℕ) (least : ℕ) : Type 0 where
-  size : length table ≡ 2704
+  size : IsTable table
   before : (j : ℕ) → j < i → get_or table j 0 ≡ get_or f j 0
   after : (j : ℕ) → i ≤ j → get_or table j 0 ≡ 0
   least_within : least ≤ i
@@ -51,7 +51,7 @@ skip_part f i k table least h z p = record {
   least_within = omega (arith, h, p.least_within);
 }
 
-set_part : (f : List ℕ) (i : ℕ) (table : List ℕ) (least : ℕ) → i < 2704 → IsPart f i table least → IsPart f (i + 1) (slice_set table i (get_or f i 0)) (i + 1)
+set_part : (f : List ℕ) (i : ℕ) (table : List ℕ) (least : ℕ) → i < pair_count → IsPart f i table least → IsPart f (i + 1) (slice_set table i (get_or f i 0)) (i + 1)
 set_part f i table least h p = record {
   size = length-set table i (get_or f i 0) ∙ p.size;
   before = λ j l. elim (cases_eq j i) [
@@ -126,12 +126,12 @@ leads_one n f x y h l g other some below rest table least fs p e =
     record {
       later = s.1;
       same = s.4;
-      new = slice_set table (place x y) v;
+      new = with_cell table x y v;
       new_least = place x y + 1;
       part = set_part f (place x y) table least (omega (arith, h, l, g)) p;
       read =
           ap (table_from n table least) s.2
-          ∙ ap (option_and_then (λ q. table_from n (slice_set table (place q.from q.to) q.amount) (place q.from q.to + 1) s.1))
+          ∙ ap (option_and_then (λ q. table_from n (with_cell table q.from q.to q.amount) (place q.from q.to + 1) s.1))
           (rising_pair n x y v least s.0.bytes (pair_back n x y v s.0.bytes s.3 h l g other some below) p.least_within);
     }
 
@@ -154,12 +154,12 @@ leads_row n g f x h i l =
     leads_skip n f (52 * x) (52 * x + 2 * n) (52 * (x + 1)) (items_from (pair_item f x) 0 (2 * n)) (omega (arith, h))
     (λ j low high. ap (λ k. get_or f k 0) (omega (arith, low)) ∙ cell_zero n g f x (j - 52 * x) i a (omega (arith, low, high)) (λ _ in_rank _. omega (arith, low, in_rank)))
     (subst (λ (k : ℕ). Leads n f k (52 * x + 2 * n) (items_from (pair_item f x) 0 (2 * n))) (omega arith)
-    (leads_all n f (pair_item f x) (λ y. 52 * x + y) (2 * n)
-    (λ y m. subst (λ (k : ℕ). Leads n f (52 * x + y) k (pair_item f x y)) (omega arith) (leads_pair n g f x y h i l m)) 0 (2 * n) (omega arith)))
+    (leads_all n f (pair_item f x) (λ y. place x y) (2 * n)
+    (λ y m. subst (λ (k : ℕ). Leads n f (place x y) k (pair_item f x y)) (omega arith) (leads_pair n g f x y h i l m)) 0 (2 * n) (omega arith)))
 
-leads_table : (n g : ℕ) (f : List ℕ) → n ≤ 26 → IsFlowOf n g f → Leads n f 0 2704 (pair_items n f)
+leads_table : (n g : ℕ) (f : List ℕ) → n ≤ 26 → IsFlowOf n g f → Leads n f 0 pair_count (pair_items n f)
 leads_table n g f h i =
-    leads_skip n f 0 (52 * (2 * n)) 2704 (pair_items n f) (omega (arith, h))
+    leads_skip n f 0 (52 * (2 * n)) pair_count (pair_items n f) (omega (arith, h))
     (λ j low high. ap (λ k. get_or f k 0) (omega arith) ∙ cell_zero n g f (j / 52) (j % 52) i (omega (arith, high)) (omega arith) (λ in_rank _ _. omega (arith, low, in_rank)))
     (leads_all n f (λ x. items_from (pair_item f x) 0 (2 * n)) (λ x. 52 * x) (2 * n) (λ x l. leads_row n g f x h i l) 0 (2 * n) (omega arith))
 
@@ -170,21 +170,21 @@ zeros k j = elim (cases_Bool (ltb j k)) [
   | inr t ↦ get_or_past (replicate k 0) j 0 (omega (arith, not_more j k t, length-replicate {A = ℕ} k 0))
 ]
 
-table_back : (n g : ℕ) (f : List ℕ) (fs : List Field) → n ≤ 26 → IsFlowOf n g f → map (λ g. g.bytes) fs ≡ pair_items n f → table_from n (replicate 2704 0) 0 fs ≡ Some f
+table_back : (n g : ℕ) (f : List ℕ) (fs : List Field) → n ≤ 26 → IsFlowOf n g f → map (λ g. g.bytes) fs ≡ pair_items n f → table_from n zero_table 0 fs ≡ Some f
 unfolding table_from
 table_back n g f fs h i e =
-    let start : IsPart f 0 (replicate 2704 0) 0 = record { size = length-replicate {A = ℕ} 2704 0; before = λ j l. absurd (omega (arith, l)); after = λ j l. zeros 2704 j; least_within = omega arith } in
-    let a = leads_table n g f h i [] (replicate 2704 0) 0 fs start (e ∙ sym (append-nil (pair_items n f))) in
+    let start : IsPart f 0 zero_table 0 = record { size = length-replicate {A = ℕ} pair_count 0; before = λ j l. absurd (omega (arith, l)); after = λ j l. zeros pair_count j; least_within = omega arith } in
+    let a = leads_table n g f h i [] zero_table 0 fs start (e ∙ sym (append-nil (pair_items n f))) in
     a.read ∙ ap (table_from n a.new a.new_least) (no_fields a.later a.same)
-    ∙ ap (λ t. Some t) (ext_get_or 0 a.new f (a.part.size ∙ sym i.size) (λ j l. a.part.before j (omega (arith, l, a.part.size))))
+    ∙ ap (λ t. Some t) (ext_get_or 0 a.new f (a.part.size ∙ sym i.table) (λ j l. a.part.before j (omega (arith, l, a.part.size))))
 
-flow_from : (n x v : ℕ) (f : List ℕ) (letter value : Field) (fs : List Field) → letter_in n letter.bytes ≡ Some x → small (number value.bytes) ≡ Some v → table_from n (replicate 2704 0) 0 fs ≡ Some f →
+flow_from : (n x v : ℕ) (f : List ℕ) (letter value : Field) (fs : List Field) → letter_in n letter.bytes ≡ Some x → small (number value.bytes) ≡ Some v → table_from n zero_table 0 fs ≡ Some f →
     flow_in n (letter ∷ value ∷ fs) ≡ Some (record { head = (x, v); table = f })
 unfolding flow_in
 flow_from n x v f letter value fs a b c =
     let told : ℕ → ℕ → Option (List ℕ) → Option FlowData = λ x v. option_and_then (λ table. Some (record { head = (x, v); table = table })) in
-    ap (option_and_then (λ x. option_and_then (λ v. told x v (table_from n (replicate 2704 0) 0 fs)) (small (number value.bytes)))) a
-    ∙ ap (option_and_then (λ v. told x v (table_from n (replicate 2704 0) 0 fs))) b
+    ap (option_and_then (λ x. option_and_then (λ v. told x v (table_from n zero_table 0 fs)) (small (number value.bytes)))) a
+    ∙ ap (option_and_then (λ v. told x v (table_from n zero_table 0 fs))) b
     ∙ ap (told x v) c
 
 pub flow_back : (n g : ℕ) (f : List ℕ) (fs : List Field) → n ≤ 26 → g < n → IsFlowOf n g f → map (λ g. g.bytes) fs ≡ (flow_row n (2 * g) f).fields →

@@ -7,7 +7,7 @@ use Rattle.std.proofs.lemmas.Grind.{flat_map-append}
 use Rattle.std.proofs.lemmas.List.Folds.{flat_map-map}
 use Rattle.std.proofs.Math.Seq.{take-suc}
 use Rattle.wh_words.specs.Moves.{Move}
-use Rattle.wh_flow.specs.Nets.{cell}
+use Rattle.wh_flow.specs.Tables.{cell}
 use Rattle.wh_lines.specs.Rows.{fields_text, row_text, rows_text}
 use Rattle.wh_lines.proofs.PrintedRows.{rows_append}
 use Rattle.wh_fields.specs.Repeated.{below}

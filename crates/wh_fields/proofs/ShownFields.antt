@@ -10,7 +10,7 @@ use Rattle.wh_words.specs.LetterSets.{in_set}
 use Rattle.wh_words.specs.Words.{IsOfRank}
 use Rattle.wh_words.specs.Moves.{Kind, IsKind}
 use Rattle.wh_words.specs.Moves.Kind.{swap, invert, cut}
-use Rattle.wh_flow.specs.Nets.{cell}
+use Rattle.wh_flow.specs.Tables.{cell}
 use Rattle.wh_fields.specs.Words.{letter_text, word_text}
 use Rattle.wh_fields.specs.MoveFields.{set_item, set_text, kind_text}
 use Rattle.wh_fields.specs.FlowFields.{flow_value, IsFlowOf, pair_item, pair_fields, flow_row}

@@ -1,5 +1,5 @@
 -- How the fields of a `flow` line tell a letter, a value, and what flows between which letters.
-use Rattle.std.specs.Prelude.{ℕ, ◌||◌, ◌+◌, ◌^◌, ◌==◌, leb, ltb, ◌&&◌, not, cond, List, [], ◌∷◌, Option, Some, None, replicate, slice_set, codes, decimal, get_or, length, ◌*◌, ◌++◌, ◌-◌, ◌<◌, ◌≡◌, ◌≢◌, ◌≤◌}
+use Rattle.std.specs.Prelude.{ℕ, ◌||◌, ◌+◌, ◌^◌, ◌==◌, leb, ltb, ◌&&◌, not, cond, List, [], ◌∷◌, Option, Some, None, codes, decimal, get_or, length, ◌*◌, ◌++◌, ◌-◌, ◌<◌, ◌≡◌, ◌≢◌, ◌≤◌}
 use Rattle.std.specs.Option.{option_and_then}
 use Rattle.wh_words.specs.Flows.{place, inflow, outflow}
 use Rattle.wh_lines.specs.Rows.{Row}
@@ -7,7 +7,7 @@ use Rattle.wh_lines.specs.Lines.{Field}
 use Rattle.wh_lines.specs.Numbers.{number}
 use Rattle.wh_fields.specs.Repeated.{below}
 use Rattle.wh_fields.specs.Words.{letter_of, letter_text}
-use Rattle.wh_flow.specs.Nets.{cell}
+use Rattle.wh_flow.specs.Tables.{cell, IsTable, zero_table, with_cell}
 
 -- Two letters, and what flows from the first to the second.
 pub record Pair : Type 0 where
@@ -38,7 +38,7 @@ pair_from least (Some p) = cond (leb least (place p.from p.to)) (Some p) None
 unfoldable pub table_from : ℕ → List ℕ → ℕ → List Field → Option (List ℕ)
 table_from n table least [] = Some table
 table_from n table least (f ∷ fs) =
-    option_and_then (λ p. table_from n (slice_set table (place p.from p.to) p.amount) (place p.from p.to + 1) fs) (pair_from least (pair_in n f.bytes))
+    option_and_then (λ p. table_from n (with_cell table p.from p.to p.amount) (place p.from p.to + 1) fs) (pair_from least (pair_in n f.bytes))
 
 -- What a `flow` line tells: a letter and a value, and the table of a flow.
 pub record FlowData : Type 0 where
@@ -61,7 +61,7 @@ unfoldable pub flow_in : ℕ → List Field → Option FlowData
 flow_in n [] = None
 flow_in n (f ∷ []) = None
 flow_in n (f ∷ g ∷ fs) =
-    option_and_then (λ x. option_and_then (λ v. option_and_then (λ table. Some (record { head = (x, v); table = table })) (table_from n (replicate 2704 0) 0 fs)) (small (number g.bytes))) (letter_in n f.bytes)
+    option_and_then (λ x. option_and_then (λ v. option_and_then (λ table. Some (record { head = (x, v); table = table })) (table_from n zero_table 0 fs)) (small (number g.bytes))) (letter_in n f.bytes)
 
 -- ---- what is written
 -- What flows from x to y, as a field. Where nothing flows, and for a letter and itself, there is none.
@@ -97,7 +97,7 @@ pub record HaveLines (n : ℕ) (fs : List (List ℕ)) : Type 0 where
 
 -- The table of a flow of generator g in rank n: numbers below 2 ^ 32, more than 0 between different letters of the rank alone, and with a value that a line can tell.
 pub record IsFlowOf (n g : ℕ) (f : List ℕ) : Type 0 where
-  pub size : length f ≡ 2704
+  pub table : IsTable f
   pub small : (x y : ℕ) → x < 52 → y < 52 → cell f x y < 2 ^ 32
   pub of_rank : (x y : ℕ) → x < 52 → y < 52 → 0 < cell f x y → (x < 2 * n) × (y < 2 * n) × (x ≢ y)
   pub value : HasSmallValue f (2 * g)

@@ -1,5 +1,5 @@
 -- The laws of reading, in the words of what is written: what is read is spelled so, and what is spelled so is read.
-use Rattle.std.specs.Prelude.{◌≡◌, ◌≢◌, ℕ, ◌+◌, ◌*◌, ◌^◌, ◌<◌, ◌≤◌, ◌↔◌, true, false, List, [], ◌∷◌, ◌++◌, length, map, replicate, slice_set, None, Some, Ok, Err, codes, decimal}
+use Rattle.std.specs.Prelude.{◌≡◌, ◌≢◌, ℕ, ◌+◌, ◌*◌, ◌^◌, ◌<◌, ◌≤◌, ◌↔◌, true, false, List, [], ◌∷◌, ◌++◌, length, map, None, Some, Ok, Err, codes, decimal}
 use Rattle.std.specs.List.{All}
 use Rattle.wh_words.specs.Limits.{most_rank}
 use Rattle.wh_words.specs.Letters.{inverse_letter}
@@ -13,6 +13,7 @@ use Rattle.wh_lines.specs.Lines.{Field}
 use Rattle.wh_fields.specs.Words.{letter_of, letter_text, letters_at, word_at, word_text}
 use Rattle.wh_fields.specs.MoveFields.{kind_in}
 use Rattle.wh_fields.specs.FlowFields.{Pair, FlowData, flow_in}
+use Rattle.wh_flow.specs.Tables.{zero_table, with_cell}
 
 -- Letters of a rank are read exactly from their bytes.
 abbrev pub ReadsLetters : Type 0
@@ -80,7 +81,7 @@ PairsRise least (p ∷ ps) = (least ≤ place p.from p.to) × PairsRise (place p
 -- A table, after these pairs are put into it.
 abbrev pub with_pairs : List ℕ → List Pair → List ℕ
 with_pairs table [] = table
-with_pairs table (p ∷ ps) = with_pairs (slice_set table (place p.from p.to) p.amount) ps
+with_pairs table (p ∷ ps) = with_pairs (with_cell table p.from p.to p.amount) ps
 
 -- The fields tell a flow in rank n: a letter, a value below 2 ^ 32, and pairs that rise. Where no pair is told, nothing flows.
 pub record IsFlowLine (n : ℕ) (fs : List (List ℕ)) (told : FlowData) : Type 0 where
@@ -90,7 +91,7 @@ pub record IsFlowLine (n : ℕ) (fs : List (List ℕ)) (told : FlowData) : Type 
   pub of_rank : All (IsPairOf n) pairs
   pub rise : PairsRise 0 pairs
   pub spelled : fs ≡ (letter_text told.head.0 ∷ []) ∷ decimal told.head.1 ∷ map pair_text pairs
-  pub table : told.table ≡ with_pairs (replicate 2704 0) pairs
+  pub table : told.table ≡ with_pairs zero_table pairs
 
 -- A flow is read exactly from the fields that tell it.
 abbrev pub ReadsFlows : Type 0

@@ -1,7 +1,7 @@
 //! Printing of flows.
 ghost use Rattle.std.specs.Prelude.{◌≡◌, ◌+◌, ◌*◌, ◌<◌, ◌≤◌, ◌++◌, OnOk};
 ghost use Rattle.wh_words.specs.Flows.{outflow, inflow};
-ghost use Rattle.wh_flow.specs.Nets.{cell};
+ghost use Rattle.wh_flow.specs.Tables.{cell};
 ghost use Rattle.wh_fields.specs.FlowFields as spec;
 ghost use Rattle.wh_fields.specs.FlowFields.{HasSmallValue, HaveLines};
 ghost use Rattle.wh_fields.specs.Repeated.{below};

@@ -1,7 +1,8 @@
 //! Reading of flows.
-ghost use Rattle.std.specs.Prelude.{◌≡◌, ◌≤◌, ◌<◌, replicate, slice_set};
+ghost use Rattle.std.specs.Prelude.{◌≡◌, ◌≤◌, ◌<◌};
 ghost use Rattle.wh_words.specs.Limits.{most_rank};
 ghost use Rattle.wh_words.specs.Flows as flows;
+ghost use Rattle.wh_flow.specs.Tables.{pair_count, zero_table, with_cell};
 ghost use Rattle.wh_fields.specs.FlowFields as spec;
 ghost use Rattle.wh_fields.specs.FlowFields.{pair_in, table_from, flow_in};
 
@@ -103,14 +104,14 @@ fn pair_of(n: u8, bytes: &[u8]) -> Option<Pair>
 /// The place of a pair in the order of pairs.
 fn place(pair: &Pair) -> usize
     ensures same { result ≡ flows.place pair.now.from pair.now.to }
-    ensures within { result < 2704 }
+    ensures within { result < pair_count }
 {
     52 * pair.from.index() as usize + pair.to.index() as usize
 }
 
 /// Lets the amount of a pair flow.
 fn put(flow: &mut Flow, pair: &Pair)
-    ensures { flow.new ≡ slice_set flow.old (flows.place pair.now.from pair.now.to) pair.now.amount }
+    ensures { flow.new ≡ with_cell flow.old pair.now.from pair.now.to pair.now.amount }
 {
     flow.set(pair.from, pair.to, pair.amount);
 }
@@ -130,7 +131,7 @@ fn pair_from(least: usize, pair: Option<Pair>) -> Option<Pair>
 #[tactic(auto, using(crate::proofs::PairTables::table_end))]
 fn flow_of(n: u8, fields: &[Field]) -> Option<Flow>
     requires { n ≤ most_rank }
-    ensures { result ≡ table_from n (replicate 2704 0) 0 fields.now }
+    ensures { result ≡ table_from n zero_table 0 fields.now }
 {
     let mut flow = Flow::zero();
     let mut least = 0;

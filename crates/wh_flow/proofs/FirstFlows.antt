@@ -6,6 +6,7 @@ use Rattle.wh_flow.specs.Rerouting.{HaveOneNetFlow, IsClosedFrom, IsFirstUpTo}
 use Rattle.wh_flow.proofs.SetSums.{capacity-le, capacity-less}
 use Rattle.wh_flow.proofs.Cells.{place-same}
 use Rattle.wh_flow.proofs.Cuts.{one-net-flow, balance}
+use Rattle.wh_flow.specs.Tables.{pair_count}
 
 module _ (c f : ℕ → ℕ → ℕ) where
   -- A set that no residual edge after the pair leaves, with the first letter of the pair and not the second.
@@ -59,7 +60,7 @@ module _ (c f : ℕ → ℕ → ℕ) where
         fi g gw (λ v m. omega (arith, nets v m, hg v m)) x y i j l (λ u w m o r. ag u w m o (omega (arith, l, r)) ∙ a u w m o r),
       )
 
-  pub is-first : (s t : ℕ) → t < 52 → IsFlow c f s t → IsFirstUpTo 2704 c f → IsFirstFlow c f s t
+  pub is-first : (s t : ℕ) → t < 52 → IsFlow c f s t → IsFirstUpTo pair_count c f → IsFirstFlow c f s t
   is-first s t l fl fi = record {
     flow = fl;
     first = λ g gl w x y h i ag. fi g gl.within (one-net-flow c f g s t l fl gl w) x y h i (omega (arith, h, i)) ag;
@@ -102,7 +103,7 @@ compared f g le (suc k) = next (compared f g le k)
 -- The first flow of a value comes before each other flow of it, or is the same.
 pub first-before : (c f : ℕ → ℕ → ℕ) (s t : ℕ) → IsFirstFlow c f s t → (g : ℕ → ℕ → ℕ) → IsFlow c g s t → HaveOneValue f g s
     → ((x y : ℕ) → x < 52 → y < 52 → f x y ≡ g x y) ⊎ IsBefore f g
-first-before c f s t fi g gl w = elim (compared f g (λ x y h i ag. fi.first g gl w x y h i ag) 2704) [
+first-before c f s t fi g gl w = elim (compared f g (λ x y h i ag. fi.first g gl w x y h i ag) pair_count) [
   | inl ag ↦ inl (λ x y h i. ag x y h i (omega (arith, h, i)))
   | inr b ↦ inr b
 ]

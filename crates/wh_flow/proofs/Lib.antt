@@ -6,6 +6,10 @@ pub mod Cells
 pub mod Entries
 pub mod NetEdges
 pub mod Pushes
+pub mod Masks
+pub mod Neighbours
+pub mod ResidualNets
+pub mod FreshLetters
 pub mod Searching
 pub mod Reached
 pub mod Rounds

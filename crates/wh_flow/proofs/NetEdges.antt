@@ -1,26 +1,27 @@
 -- A network without edges is one, and stays one when an edge is added.
-use Rattle.std.proofs.Common.{◌≡◌, ◌≢◌, ℕ, ◌+◌, ◌*◌, ◌<◌, ◌≤◌, ◌==◌, ◌&&◌, cond, refl, sym, ap, ◌∙◌, inl, inr, ◌⊎◌, arith, List, length, replicate}
+use Rattle.std.proofs.Common.{◌≡◌, ◌≢◌, ℕ, ◌+◌, ◌*◌, ◌<◌, ◌≤◌, ◌==◌, ◌&&◌, cond, refl, sym, ap, ◌∙◌, inl, inr, ◌⊎◌, arith, List}
 use Rattle.std.proofs.lemmas.Bool.{cases_eq, cases_lt, eq-eqb, ne_eqb}
-use Rattle.std.proofs.lemmas.List.{length-replicate}
 use Rattle.std.proofs.Math.Bool.{and-false, or_comm}
 use Rattle.wh_words.specs.Flows.{sum_below}
 use Rattle.wh_words.specs.Edges.{joins}
-use Rattle.wh_flow.specs.Nets.{Net, IsNet, cell, edge_count}
+use Rattle.wh_flow.specs.Tables.{cell, IsTable, zero_table}
+use Rattle.wh_flow.specs.Nets.{Net, IsNet, edge_count}
 use Rattle.wh_flow.specs.Searches.{IsOfLetters}
 use Rattle.wh_flow.proofs.Sums.{sum-same, sum-one, sum-zero, sum-part}
-use Rattle.wh_flow.proofs.Cells.{cell-zero}
+use Rattle.wh_flow.proofs.Cells.{cell-zero, zero-table}
+use Rattle.wh_words.specs.Limits.{most_rank, most_letters}
 
 -- ---- the network without edges
-pub empty_count : edge_count (replicate 2704 0) ≡ 0
-empty_count = sum-same 52 (λ y. sum_below y (λ x. cell (replicate 2704 0) x y)) (λ _. 0) (λ y i. column y i) ∙ sum-zero 52
+pub empty_count : edge_count zero_table ≡ 0
+empty_count = sum-same 52 (λ y. sum_below y (λ x. cell zero_table x y)) (λ _. 0) (λ y i. column y i) ∙ sum-zero 52
   where
-    column : (y : ℕ) → y < 52 → sum_below y (λ x. cell (replicate 2704 0) x y) ≡ 0
-    column y i = sum-same y (λ x. cell (replicate 2704 0) x y) (λ _. 0) (λ x h. cell-zero x y (omega (arith, h, i)) i) ∙ sum-zero y
+    column : (y : ℕ) → y < 52 → sum_below y (λ x. cell zero_table x y) ≡ 0
+    column y i = sum-same y (λ x. cell zero_table x y) (λ _. 0) (λ x h. cell-zero x y (omega (arith, h, i)) i) ∙ sum-zero y
 
-pub empty_net : (r : ℕ) → r ≤ 26 → IsNet (record { rank = r; cells = replicate 2704 0 })
+pub empty_net : (r : ℕ) → r ≤ most_rank → IsNet (record { rank = r; cells = zero_table })
 empty_net r h = record {
   rank = h;
-  size = length-replicate {A = ℕ} 2704 0;
+  table = zero-table;
   symmetric = λ x y i j. cell-zero x y i j ∙ sym (cell-zero y x j i);
   diagonal = λ x i. cell-zero x x i i;
   of_rank = λ x y i j _. cell-zero x y i j;
@@ -78,10 +79,10 @@ module _ (l m : List ℕ) (x y : ℕ) (hx : x < 52) (hy : y < 52) (ne : x ≢ y)
       apart u v (inl e) p q = e p
       apart u v (inr e) p q = e q
 
-  pub net_added : (r : ℕ) → IsNet (record { rank = r; cells = l }) → x < 2 * r → y < 2 * r → edge_count l < 4096 → length m ≡ 2704 → IsNet (record { rank = r; cells = m })
-  net_added r n rx ry few size = record {
+  pub net_added : (r : ℕ) → IsNet (record { rank = r; cells = l }) → x < 2 * r → y < 2 * r → edge_count l < most_letters → IsTable m → IsNet (record { rank = r; cells = m })
+  net_added r n rx ry few table = record {
     rank = n.rank;
-    size = size;
+    table = table;
     symmetric = λ u v i j. omega (arith, added u v i j, added v u j i, n.symmetric u v i j, joined-turned x y u v);
     diagonal = λ u i. omega (arith, added u u i i, n.diagonal u i, joined-other x y ne u u (λ k. ne (k.0 ∙ sym k.1)) (λ k. ne (k.0 ∙ sym k.1)));
     of_rank = λ u v i j h. omega (arith, added u v i j, n.of_rank u v i j h, joined-other x y ne u v (λ k. absurd (omega (arith, h, k.0, rx))) (λ k. absurd (omega (arith, h, k.1, ry))));
@@ -89,7 +90,7 @@ module _ (l m : List ℕ) (x y : ℕ) (hx : x < 52) (hy : y < 52) (ne : x ≢ y)
   }
 
 -- A capacity is at most the number of edges.
-pub cell_few : (net : Net) → IsNet net → (x y : ℕ) → x < 52 → y < 52 → cell net.cells x y ≤ 4096
+pub cell_few : (net : Net) → IsNet net → (x y : ℕ) → x < 52 → y < 52 → cell net.cells x y ≤ most_letters
 cell_few net n x y i j = elim (cases_lt x y) [
   | inl less ↦ above x y less j
   | inr more ↦ elim (cases_eq x y) [
@@ -98,7 +99,7 @@ cell_few net n x y i j = elim (cases_lt x y) [
   ]
 ]
   where
-    above : (u v : ℕ) → u < v → v < 52 → cell net.cells u v ≤ 4096
+    above : (u v : ℕ) → u < v → v < 52 → cell net.cells u v ≤ most_letters
     above u v h k = omega (arith, n.few, sum-part 52 v (λ b. sum_below b (λ a. cell net.cells a b)) k, sum-part v u (λ a. cell net.cells a v) h)
 
 -- Letters past the rank have no edges.

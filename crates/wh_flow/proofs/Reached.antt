@@ -1,16 +1,18 @@
 -- What a search that ends without finding its sink means for flows and cuts.
-use Rattle.std.proofs.Common.{◌≡◌, ◌≢◌, ℕ, ◌+◌, ◌-◌, ◌*◌, ◌<◌, ◌≤◌, ◌==◌, Bool, true, false, cond, refl, sym, ap, ◌∙◌, subst, inl, inr, arith, List}
-use Rattle.std.specs.Prelude.{leb}
+use Rattle.std.proofs.Common.{◌≡◌, ◌≢◌, ℕ, ◌-◌, ◌<◌, ◌≤◌, ◌==◌, Bool, true, false, cond, refl, sym, ap, ◌∙◌, subst, inl, inr, arith, List}
+use Rattle.std.specs.Prelude.{leb, ltb, ◌^◌}
+use Rattle.std.proofs.lemmas.Bool.Decides.{nat_tests}
 use Rattle.std.proofs.lemmas.Bool.{cases_Bool, cases_lt, true≢false}
 use Rattle.std.proofs.lemmas.Nat.Bits.{bit_at-zero}
 use Rattle.wh_words.specs.LetterSets.{in_set}
-use Rattle.wh_words.specs.Flows.{IsFlow, HasMoreValueThan, FillsLeastCut, IsMaximum, IsLeastCut, IsClosed, Separates, IsReach}
-use Rattle.wh_flow.specs.Nets.{cell}
+use Rattle.wh_words.specs.Flows.{IsFlow, IsWithin, HasMoreValueThan, FillsLeastCut, IsMaximum, IsLeastCut, IsClosed, Separates, IsReach, place}
+use Rattle.wh_flow.specs.Tables.{cell}
 use Rattle.wh_flow.specs.Rerouting.{IsClosedFrom}
-use Rattle.wh_flow.specs.Searches.{residual, goes_back, IsPushed, IsLed, IsShut, IsSearched}
+use Rattle.wh_flow.specs.Searches.{residual, goes_back, IsOfLetters, IsPushed, IsLed, IsShut, IsSearched}
 use Rattle.wh_flow.proofs.Cuts.{closed-maximum, least-cut, is-full}
 use Rattle.wh_flow.proofs.Entries.{pushed-flow, pushed-value}
-use Rattle.wh_flow.proofs.Pushes.{no_residual, residual_lowers}
+use Rattle.wh_flow.proofs.Pushes.{no_residual, residual_lowers, past_no_residual}
+use Rattle.wh_flow.proofs.Searching.{small_set}
 
 pub none_seen : (t : ℕ) → in_set 0 t ≡ false
 none_seen t = ap (λ b. b == 1) (bit_at-zero t)
@@ -35,7 +37,7 @@ residual-zero : (cap flow : List ℕ) (x y : ℕ) → cell cap x y ≤ cell flow
 residual-zero cap flow x y h e = elim (cases_Bool (goes_back flow 0 x y)) [
   | inl b ↦ (residual_lowers cap flow 0 x y b).1 ∙ e
   | inr b ↦ (let e : cell cap x y - cell flow x y ≡ 0 = omega (arith, h) in
-      subst (λ (k : Bool). cond k (cell flow y x) (cond (leb 0 (52 * x + y)) (cell cap x y - cell flow x y) 0) ≡ 0) (sym b) (either (leb 0 (52 * x + y)) (cell cap x y - cell flow x y) e))
+      subst (λ (k : Bool). cond k (cell flow y x) (cond (leb 0 (place x y)) (cell cap x y - cell flow x y) 0) ≡ 0) (sym b) (either (leb 0 (place x y)) (cell cap x y - cell flow x y) e))
 ]
   where
     either : (b : Bool) (m : ℕ) → m ≡ 0 → cond b m 0 ≡ 0
@@ -110,3 +112,26 @@ reached_cut cap f new s t hs ht ne fl gr q led = searched_least cap f new s t ai
 -- A search with nothing seen, along all pairs.
 pub searched_from_start : (cap f : List ℕ) (none new from s t : ℕ) → none ≡ 0 → from ≡ 0 → IsSearched cap f none new from s t → IsSearched cap f 0 new 0 s t
 searched_from_start cap f none new from s t e k q = subst (λ (m : ℕ). IsSearched cap f m new 0 s t) e (subst (λ (m : ℕ). IsSearched cap f none new m s t) k q)
+
+-- What is reached along all pairs from a letter of the first ones are first ones.
+pub reached_letters : (letters : ℕ) (cap flow : List ℕ) (new v : ℕ) → letters ≤ 52 → v < letters → IsOfLetters letters cap → IsWithin (cell cap) (cell flow) → IsSearched cap flow 0 new 0 v 52
+    → ((x : ℕ) → 52 ≤ x → in_set new x ≡ false) → new < 2 ^ letters
+reached_letters letters cap flow new v few lv o w q past = small_set new letters (λ x l. elim (cases_lt x 52) [
+  | inl h ↦ elim (cases_Bool (in_set new x)) [
+    | inl b ↦ absurd (omega (arith, l, below x (q.least (λ z. ltb z letters) (first v lv) shut x h (none_seen x) b)))
+    | inr b ↦ b
+  ]
+  | inr h ↦ past x (omega (arith, h))
+])
+  where
+    first : (z : ℕ) → z < letters → ltb z letters ≡ true
+    first z l = grind (arith, nat_tests)
+
+    below : (z : ℕ) → ltb z letters ≡ true → z < letters
+    below z e = grind (arith, nat_tests)
+
+    shut : IsShut cap flow 0 (λ z. ltb z letters)
+    shut x y h i a r = elim (cases_lt y letters) [
+      | inl l ↦ first y l
+      | inr l ↦ absurd (omega (arith, r, past_no_residual letters cap flow 0 x y o w h i (omega (arith, l))))
+    ]

@@ -1,11 +1,8 @@
 -- Networks on the letters of a rank, after Ford and Fulkerson.
-use Rattle.std.specs.Prelude.{◌≡◌, ℕ, ◌+◌, ◌*◌, ◌<◌, ◌≤◌, List, length, get_or}
+use Rattle.std.specs.Prelude.{◌≡◌, ℕ, ◌*◌, ◌<◌, ◌≤◌, List}
 use Rattle.wh_words.specs.Limits.{most_rank, most_letters}
 use Rattle.wh_words.specs.Flows.{sum_below}
-
--- The number for two letters in a table of 52 rows of 52 numbers.
-abbrev pub cell : List ℕ → ℕ → ℕ → ℕ
-cell cells x y = get_or cells (52 * x + y) 0
+use Rattle.wh_flow.specs.Tables.{IsTable, cell}
 
 -- A rank, and the number of edges between each two letters.
 pub record Net : Type 0 where
@@ -19,7 +16,7 @@ edge_count cells = sum_below 52 (λ y. sum_below y (λ x. cell cells x y))
 -- Edges join two different letters of the rank, either way round, and there are at most 4,096.
 pub record IsNet (net : Net) : Type 0 where
   pub rank : net.rank ≤ most_rank
-  pub size : length net.cells ≡ 2704
+  pub table : IsTable net.cells
   pub symmetric : (x y : ℕ) → x < 52 → y < 52 → cell net.cells x y ≡ cell net.cells y x
   pub diagonal : (x : ℕ) → x < 52 → cell net.cells x x ≡ 0
   pub of_rank : (x y : ℕ) → x < 52 → y < 52 → 2 * net.rank ≤ x → cell net.cells x y ≡ 0

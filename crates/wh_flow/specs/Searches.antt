@@ -1,8 +1,8 @@
 -- The search for a way along residual edges at pairs from a place on. Letters that were seen are kept in a set.
-use Rattle.std.specs.Prelude.{◌≡◌, ◌≢◌, ℕ, ◌+◌, ◌-◌, ◌*◌, ◌<◌, ◌≤◌, ltb, leb, ◌&&◌, ◌⊎◌, Bool, true, false, cond, List, length}
+use Rattle.std.specs.Prelude.{◌≡◌, ◌≢◌, ℕ, ◌-◌, ◌<◌, ◌≤◌, ltb, leb, ◌&&◌, ◌⊎◌, Bool, true, false, cond, List}
 use Rattle.wh_words.specs.LetterSets.{in_set}
 use Rattle.wh_words.specs.Flows.{sum_below, place, IsWithin}
-use Rattle.wh_flow.specs.Nets.{cell}
+use Rattle.wh_flow.specs.Tables.{IsTable, cell}
 use Rattle.wh_flow.specs.Rerouting.{IsMoved}
 
 -- Only the first letters have capacities.
@@ -11,11 +11,11 @@ IsOfLetters letters cap = (x y : ℕ) → x < 52 → y < 52 → (letters ≤ x) 
 
 -- Something flows from y to x, at a pair from the place on.
 abbrev pub goes_back : List ℕ → ℕ → ℕ → ℕ → Bool
-goes_back flow from x y = leb from (52 * y + x) && ltb 0 (cell flow y x)
+goes_back flow from x y = leb from (place y x) && ltb 0 (cell flow y x)
 
 -- The residual capacity from x to y at pairs from a place on: how much more can go, by less flow back or else by more flow there.
 abbrev pub residual : List ℕ → List ℕ → ℕ → ℕ → ℕ → ℕ
-residual cap flow from x y = cond (goes_back flow from x y) (cell flow y x) (cond (leb from (52 * x + y)) (cell cap x y - cell flow x y) 0)
+residual cap flow from x y = cond (goes_back flow from x y) (cell flow y x) (cond (leb from (place x y)) (cell cap x y - cell flow x y) 0)
 
 -- How many letters weren't seen.
 abbrev pub unseen : ℕ → ℕ
@@ -44,7 +44,7 @@ pub record IsPushed (cap old new : List ℕ) (seen from v t d : ℕ) : Type 0 wh
 -- A flow that takes 1 from v to x by letters that weren't seen.
 pub record IsLed (cap flow : List ℕ) (seen v x : ℕ) : Type 0 where
   pub new : List ℕ
-  pub size : length new ≡ 2704
+  pub table : IsTable new
   pub pushed : IsPushed cap flow new seen 0 v x 1
 
 -- No residual edge leaves the set.
@@ -58,10 +58,9 @@ pub record IsSearched (cap flow : List ℕ) (old new from v t : ℕ) : Type 0 wh
   pub shut : (x : ℕ) → x < 52 → in_set old x ≡ false → in_set new x ≡ true → (y : ℕ) → y < 52 → 0 < residual cap flow from x y → in_set new y ≡ true
   pub least : (set : ℕ → Bool) → set v ≡ true → IsShut cap flow from set → (x : ℕ) → x < 52 → in_set old x ≡ false → in_set new x ≡ true → set x ≡ true
 
--- The same before the edges from v to the letters from y on.
-pub record IsSearching (cap flow : List ℕ) (old now from v t y : ℕ) : Type 0 where
+-- The same before the edges from v are all tried.
+pub record IsSearching (cap flow : List ℕ) (old now from v t : ℕ) : Type 0 where
   pub start : in_set now v ≡ true
   pub omits : in_set old t ≡ false → in_set now t ≡ false
-  pub row : (z : ℕ) → z < y → z < 52 → 0 < residual cap flow from v z → in_set now z ≡ true
   pub shut : (x : ℕ) → x < 52 → x ≢ v → in_set old x ≡ false → in_set now x ≡ true → (z : ℕ) → z < 52 → 0 < residual cap flow from x z → in_set now z ≡ true
   pub least : (set : ℕ → Bool) → set v ≡ true → IsShut cap flow from set → (x : ℕ) → x < 52 → in_set old x ≡ false → in_set now x ≡ true → set x ≡ true

@@ -1,116 +1,100 @@
 //! The first flow of a value: each number in turn is made the least that the numbers before it allow.
-ghost use Rattle.std.specs.Prelude.{◌≡◌, ℕ, ◌+◌, ◌*◌, ◌<◌, ◌≤◌, length, true, false};
-ghost use Rattle.wh_words.specs.Flows.{IsWithin, IsFlow, IsFirstFlow, HaveOneValue, AgreeBefore, place};
-ghost use Rattle.wh_flow.specs.Nets.{cell};
-ghost use Rattle.wh_flow.specs.Rerouting.{HaveOneNetFlow, IsLeastAt, IsFirstUpTo};
+ghost use Rattle.std.specs.Prelude.{◌≡◌, ◌+◌, ◌<◌, ◌≤◌, true, false};
+ghost use Rattle.wh_words.specs.Flows.{IsFlow, IsFirstFlow, HaveOneValue, AgreeBefore, place};
+ghost use Rattle.wh_flow.specs.Tables.{IsTable, cell};
 ghost use Rattle.wh_flow.specs.Searches.{IsOfLetters};
+ghost use Rattle.wh_flow.specs.Rerouting.{HaveOneNetFlow, IsLeastAt, IsFirstUpTo};
 
 use crate::flow::Flow;
 use crate::net::Net;
+use crate::residual::ResidualNet;
 use crate::search::Search;
-use wh_words::{Letter, LetterSet};
+use wh_words::Letter;
 
 /// The first flow from `s` to `t` of the value of a given one: numbers are compared pair by pair, by the first letter and
 /// then by the second, and a smaller number comes first.
 pub fn least_flow(net: &Net, flow: &Flow, s: Letter, t: Letter) -> Flow
     requires flow { IsFlow (cell net.now.cells) (cell flow.now) s t }
-    ensures size { length result ≡ 2704 }
+    ensures table { IsTable result }
     ensures first { IsFirstFlow (cell net.now.cells) (cell result) s t }
     ensures same { HaveOneValue (cell flow.now) (cell result) s }
 {
     // Both indices are below 52, which the proof takes from these calls.
     s.index();
     t.index();
-    let mut least = Flow { cells: flow.cells };
-    lower_all(net.cells(), &mut least.cells, net.letters());
-    least
+    let mut residual = ResidualNet::of(net, flow);
+    lower_all(&mut residual, net.letters());
+    residual.into_flow()
 }
 
-/// Makes a flow the first of its value, whatever its ends are.
-fn lower_all(cap: &[u32], flow: &mut [u32], letters: usize)
-    requires cap { length cap.now ≡ 2704 }
-    requires size { length flow.old ≡ 2704 }
+/// Lowers the numbers of the first rows in turn.
+fn lower_all(residual: &mut ResidualNet, letters: usize)
     requires letters { letters ≤ 52 }
-    requires of_letters { IsOfLetters letters cap.now }
-    requires within { IsWithin (cell cap.now) (cell flow.old) }
-    ensures size { length flow.new ≡ 2704 }
-    ensures first { (s t : ℕ) → t < 52 → IsFlow (cell cap.now) (cell flow.old) s t → IsFirstFlow (cell cap.now) (cell flow.new) s t }
-    ensures same { (s : ℕ) → s < 52 → HaveOneValue (cell flow.old) (cell flow.new) s }
+    requires of_letters { IsOfLetters letters residual.old.cap }
+    requires from { residual.old.from ≡ 0 }
+    ensures cap { residual.new.cap ≡ residual.old.cap }
+    ensures net { HaveOneNetFlow (cell residual.old.flow) (cell residual.new.flow) }
+    ensures first { IsFirstUpTo (place letters 0) (cell residual.old.cap) (cell residual.new.flow) }
 {
     for x in 0..letters {
-        lower_row(cap, flow, letters, x);
+        lower_row(residual, letters, x);
     }
 }
 
-/// Lowers the numbers of a row in turn.
-fn lower_row(cap: &[u32], flow: &mut [u32], letters: usize, x: usize)
-    requires cap { length cap.now ≡ 2704 }
-    requires size { length flow.old ≡ 2704 }
+/// Lowers the numbers of a row in turn, to the letters that the network has.
+fn lower_row(residual: &mut ResidualNet, letters: usize, x: usize)
     requires letters { letters ≤ 52 }
-    requires of_letters { IsOfLetters letters cap.now }
-    requires x_within { x < letters }
-    requires within { IsWithin (cell cap.now) (cell flow.old) }
-    requires first { IsFirstUpTo (52 * x) (cell cap.now) (cell flow.old) }
-    ensures size { length flow.new ≡ 2704 }
-    ensures within { IsWithin (cell cap.now) (cell flow.new) }
-    ensures net { HaveOneNetFlow (cell flow.old) (cell flow.new) }
-    ensures first { IsFirstUpTo (52 * x + 52) (cell cap.now) (cell flow.new) }
+    requires of_letters { IsOfLetters letters residual.old.cap }
+    requires x_within { x < 52 }
+    requires from { residual.old.from ≡ place x 0 }
+    requires first { IsFirstUpTo (place x 0) (cell residual.old.cap) (cell residual.old.flow) }
+    ensures cap { residual.new.cap ≡ residual.old.cap }
+    ensures from { residual.new.from ≡ place (x + 1) 0 }
+    ensures net { HaveOneNetFlow (cell residual.old.flow) (cell residual.new.flow) }
+    ensures first { IsFirstUpTo (place (x + 1) 0) (cell residual.old.cap) (cell residual.new.flow) }
 {
     for y in 0..letters {
-        lower(cap, flow, letters, x, y);
+        residual.leave_out(x, y);
+        lower(residual, x, y);
     }
+    residual.leave_out_empty(52 - letters);
 }
 
 /// Lowers the number at `x` and `y` as far as later pairs can make up for it.
-fn lower(cap: &[u32], flow: &mut [u32], letters: usize, x: usize, y: usize)
-    requires cap { length cap.now ≡ 2704 }
-    requires size { length flow.old ≡ 2704 }
-    requires letters { letters ≤ 52 }
-    requires of_letters { IsOfLetters letters cap.now }
-    requires x_within { x < letters }
-    requires y_within { y < letters }
-    requires within { IsWithin (cell cap.now) (cell flow.old) }
-    ensures size { length flow.new ≡ 2704 }
-    ensures within { IsWithin (cell cap.now) (cell flow.new) }
-    ensures net { HaveOneNetFlow (cell flow.old) (cell flow.new) }
-    ensures front { AgreeBefore (place x y) (cell flow.old) (cell flow.new) }
-    ensures least { IsLeastAt (cell cap.now) (cell flow.new) x y }
+fn lower(residual: &mut ResidualNet, x: usize, y: usize)
+    requires x_within { x < 52 }
+    requires y_within { y < 52 }
+    requires from { residual.old.from ≡ place x y + 1 }
+    ensures cap { residual.new.cap ≡ residual.old.cap }
+    ensures from { residual.new.from ≡ residual.old.from }
+    ensures net { HaveOneNetFlow (cell residual.old.flow) (cell residual.new.flow) }
+    ensures front { AgreeBefore (place x y) (cell residual.old.flow) (cell residual.new.flow) }
+    ensures least { IsLeastAt (cell residual.old.cap) (cell residual.new.flow) x y }
 {
-    'lower: while reroute(cap, flow, letters, x, y) {}
+    'lower: while reroute(residual, x, y) {}
 }
 
 /// Takes some of the number at `x` and `y` round by later pairs, or answers false where it is the least.
-fn reroute(cap: &[u32], flow: &mut [u32], letters: usize, x: usize, y: usize) -> bool
-    requires cap { length cap.now ≡ 2704 }
-    requires size { length flow.old ≡ 2704 }
-    requires letters { letters ≤ 52 }
-    requires of_letters { IsOfLetters letters cap.now }
-    requires x_within { x < letters }
-    requires y_within { y < letters }
-    requires within { IsWithin (cell cap.now) (cell flow.old) }
-    ensures size { length flow.new ≡ 2704 }
-    ensures within { IsWithin (cell cap.now) (cell flow.new) }
-    ensures net { HaveOneNetFlow (cell flow.old) (cell flow.new) }
-    ensures front { AgreeBefore (place x y) (cell flow.old) (cell flow.new) }
-    ensures lower { result ≡ true → cell flow.new x y < cell flow.old x y }
-    ensures same { result ≡ false → flow.new ≡ flow.old }
-    ensures least { result ≡ false → IsLeastAt (cell cap.now) (cell flow.old) x y }
+fn reroute(residual: &mut ResidualNet, x: usize, y: usize) -> bool
+    requires x_within { x < 52 }
+    requires y_within { y < 52 }
+    requires from { residual.old.from ≡ place x y + 1 }
+    ensures cap { residual.new.cap ≡ residual.old.cap }
+    ensures from { residual.new.from ≡ residual.old.from }
+    ensures net { HaveOneNetFlow (cell residual.old.flow) (cell residual.new.flow) }
+    ensures front { AgreeBefore (place x y) (cell residual.old.flow) (cell residual.new.flow) }
+    ensures lower { result ≡ true → cell residual.new.flow x y < cell residual.old.flow x y }
+    ensures same { result ≡ false → residual.new ≡ residual.old }
+    ensures least { result ≡ false → IsLeastAt (cell residual.old.cap) (cell residual.old.flow) x y }
 {
-    let pair = 52 * x + y;
-    let limit = flow[pair];
+    let limit = residual.flow_of(x, y);
     if limit == 0 {
         return false;
     }
-    let later = Search {
-        from: pair + 1,
-        letters,
-        sink: y,
-    };
-    let mut seen = LetterSet::empty();
-    let d = later.push(cap, flow, &mut seen, x, limit);
+    let d = Search::new(Letter::of_index(y as u8)).push(residual, x, limit);
     if d == 0 {
         return false;
     }
-    flow[pair] -= d;
+    residual.lower(x, y, d);
     true
 }

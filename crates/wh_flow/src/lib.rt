@@ -2,6 +2,7 @@
 #![tactic(auto)]
 
 mod check;
+mod cut;
 mod flow;
 pub mod laws;
 mod least;
@@ -9,10 +10,11 @@ mod maximum;
 mod net;
 mod residual;
 mod search;
+mod table;
 
 pub use check::check_flow;
+pub use cut::{least_cut, reach};
 pub use flow::Flow;
 pub use least::least_flow;
 pub use maximum::{augment, max_flow, max_flow_uncounted};
 pub use net::Net;
-pub use residual::{least_cut, reach};

@@ -1,11 +1,11 @@
 //! Flows of greatest value, by rounds that each raise the value (Ford and Fulkerson).
 ghost use Rattle.std.specs.Prelude.{◌≡◌, ◌≢◌, ℕ, ◌+◌, ◌*◌, ◌<◌, ◌≤◌, ◌↔◌, cond, length, true, false};
 ghost use Rattle.wh_words.specs.Flows.{IsFlow, HasMoreValueThan, IsMaximum, FillsLeastCut, degree};
-ghost use Rattle.wh_flow.specs.Nets.{cell};
-ghost use Rattle.wh_flow.specs.Searches.{IsOfLetters};
+ghost use Rattle.wh_flow.specs.Tables.{cell};
 
 use crate::flow::Flow;
 use crate::net::Net;
+use crate::residual::ResidualNet;
 use crate::search::Search;
 use std::marker::Brand;
 use std::sync::ledger::{Blank, Ledger};
@@ -30,14 +30,10 @@ pub fn augment<L: Ledger>(
     ensures done { result ≡ false → (flow.new ≡ flow.old) × FillsLeastCut (cell net.now.cells) (cell flow.old) s t }
     ensures cost { steps.new ≡ steps.old + cond result 1 0 }
 {
-    let search = Search {
-        from: 0,
-        letters: net.letters(),
-        sink: t.index() as usize,
-    };
-    let raised = raise(net.cells(), &mut flow.cells, search, s.index() as usize);
+    let mut residual = ResidualNet::of(net, flow);
+    let raised = raise(&mut residual, &mut Search::new(t), s, steps);
     if raised {
-        steps.tick();
+        *flow = residual.into_flow();
     }
     raised
 }
@@ -55,9 +51,10 @@ pub fn max_flow<L: Ledger>(net: &Net, s: Letter, t: Letter, steps: &mut Steps<L>
 {
     // The index is below 52, which the proof takes from this call.
     s.index();
-    let mut flow = Flow::zero();
-    'raise: while augment(net, &mut flow, s, t, steps) {}
-    flow
+    let mut residual = ResidualNet::without_flow(net);
+    let mut search = Search::new(t);
+    'raise: while raise(&mut residual, &mut search, s, steps) {}
+    residual.into_flow()
 }
 
 /// `max_flow` for a caller that counts no steps.
@@ -86,24 +83,31 @@ fn max_flow_over<L: Ledger>(net: &Net, s: Letter, t: Letter, blank: Blank) -> Fl
     max_flow(net, s, t, &mut steps)
 }
 
-/// Raises the value, or answers false where it is the greatest.
-fn raise(cap: &[u32], flow: &mut [u32], search: Search, s: usize) -> bool
-    requires cap { length cap.now ≡ 2704 }
-    requires size { length flow.old ≡ 2704 }
-    requires from { search.from ≡ 0 }
-    requires letters { search.letters ≤ 52 }
-    requires of_letters { IsOfLetters search.letters cap.now }
-    requires s_within { s < search.letters }
-    requires apart { s ≢ search.sink }
-    requires flow { IsFlow (cell cap.now) (cell flow.old) s search.sink }
-    ensures size { length flow.new ≡ 2704 }
-    ensures flow { IsFlow (cell cap.now) (cell flow.new) s search.sink }
-    ensures more { result ≡ true → HasMoreValueThan (cell flow.new) (cell flow.old) s }
-    ensures same { result ≡ false → flow.new ≡ flow.old }
-    ensures cut { result ≡ false → FillsLeastCut (cell cap.now) (cell flow.old) s search.sink }
-    ensures maximum { result ≡ false → IsMaximum (cell cap.now) (cell flow.old) s search.sink }
+/// Raises the value between a letter and the sink of a search at one step, or answers false where it is the greatest.
+fn raise<L: Ledger>(
+    residual: &mut ResidualNet,
+    search: &mut Search,
+    s: Letter,
+    steps: &mut Steps<L>,
+) -> bool
+    requires from { residual.old.from ≡ 0 }
+    requires apart { s ≢ search.old.sink }
+    requires flow { IsFlow (cell residual.old.cap) (cell residual.old.flow) s search.old.sink }
+    ensures sink { search.new.sink ≡ search.old.sink }
+    ensures cap { residual.new.cap ≡ residual.old.cap }
+    ensures from { residual.new.from ≡ 0 }
+    ensures flow { IsFlow (cell residual.old.cap) (cell residual.new.flow) s search.old.sink }
+    ensures more { result ≡ true → HasMoreValueThan (cell residual.new.flow) (cell residual.old.flow) s }
+    ensures same { result ≡ false → residual.new ≡ residual.old }
+    ensures cut { result ≡ false → FillsLeastCut (cell residual.old.cap) (cell residual.old.flow) s search.old.sink }
+    ensures maximum { result ≡ false → IsMaximum (cell residual.old.cap) (cell residual.old.flow) s search.old.sink }
+    ensures cost { steps.new ≡ steps.old + cond result 1 0 }
 {
-    let mut seen = LetterSet::empty();
-    let d = search.push(cap, flow, &mut seen, s, u32::MAX);
-    d > 0
+    search.seen = LetterSet::empty();
+    let d = search.push(residual, s.index() as usize, u32::MAX);
+    if d == 0 {
+        return false;
+    }
+    steps.tick();
+    true
 }

@@ -3,8 +3,9 @@ use Rattle.std.proofs.Common.{◌≡◌, ℕ, zero, suc, ◌+◌, ◌*◌, ◌<�
 use Rattle.std.proofs.lemmas.Bool.{cases_lt, cases_eq}
 use Rattle.std.proofs.lemmas.List.{get_or_past}
 use Rattle.wh_words.specs.LetterSets.{in_set}
-use Rattle.wh_words.specs.Flows.{sum_below, where_in, degree, capacity_of_set}
-use Rattle.wh_flow.specs.Nets.{Net, IsNet, cell}
+use Rattle.wh_words.specs.Flows.{sum_below, place, where_in, degree, capacity_of_set}
+use Rattle.wh_flow.specs.Tables.{cell}
+use Rattle.wh_flow.specs.Nets.{Net, IsNet}
 use Rattle.wh_flow.proofs.Sums.{sum-same, sum-zero, sum_more, sum_none}
 use Rattle.wh_flow.proofs.NetEdges.{cell_few}
 
@@ -61,13 +62,13 @@ module _ (net : Net) (is : IsNet net) where
   no_edge : (x y : ℕ) → y < 52 → 2 * net.rank ≤ y → cell net.cells x y ≡ 0
   no_edge x y l h = elim (cases_lt x 52) [
     | inl k ↦ is.symmetric x y k l ∙ is.of_rank y x l k h
-    | inr k ↦ get_or_past net.cells (52 * x + y) 0 (omega (arith, is.size, k))
+    | inr k ↦ get_or_past net.cells (place x y) 0 (omega (arith, is.table, k))
   ]
 
   pub cell_most : (x y : ℕ) → y < 52 → cell net.cells x y ≤ 4096
   cell_most x y l = elim (cases_lt x 52) [
     | inl k ↦ cell_few net is x y k l
-    | inr k ↦ omega (arith, get_or_past net.cells (52 * x + y) 0 (omega (arith, is.size, k)))
+    | inr k ↦ omega (arith, get_or_past net.cells (place x y) 0 (omega (arith, is.table, k)))
   ]
 
   pub out_whole : (set x n : ℕ) → 2 * net.rank ≤ n → n ≤ 52 → out_below net.cells set x n ≡ out_below net.cells set x 52

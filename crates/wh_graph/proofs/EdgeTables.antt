@@ -7,7 +7,7 @@ use Rattle.wh_words.specs.Tuples.{TupleData, IsTuple}
 use Rattle.wh_words.specs.Edges.{edges, joins, crosses, ends_at, cap}
 use Rattle.wh_words.specs.TupleFlows.{edge_table}
 use Rattle.wh_words.specs.Flows.{sum_below, where_in, capacity_of_set}
-use Rattle.wh_flow.specs.Nets.{cell}
+use Rattle.wh_flow.specs.Tables.{cell}
 use Rattle.wh_flow.proofs.Sums.{sum-same, sum-add, sum-zero, sum-one}
 use Rattle.wh_flow.proofs.SetSums.{where-zero, where-add}
 use Rattle.wh_graph.specs.Laws.{JoinsTwo}

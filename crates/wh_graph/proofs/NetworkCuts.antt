@@ -10,7 +10,8 @@ use Rattle.wh_words.specs.Moves.{IsCut}
 use Rattle.wh_words.specs.Edges.{cap}
 use Rattle.wh_words.specs.Flows.{capacity_of_set, Separates, IsLeastCut}
 use Rattle.wh_words.specs.CapacityTraces.{IsLeastCapacityCut}
-use Rattle.wh_flow.specs.Nets.{Net, cell}
+use Rattle.wh_flow.specs.Tables.{cell}
+use Rattle.wh_flow.specs.Nets.{Net}
 use Rattle.wh_graph.specs.Graphs.{IsGraph, GraphHasTheLeastCuts, GraphTellsFlatness}
 use Rattle.wh_graph.proofs.SetNumbers.{mask, mask_lt, mask_has, mask_cut, holds, omits, holds_back}
 use Rattle.wh_graph.proofs.Agreement.{mask_cap}

@@ -6,7 +6,8 @@ use Rattle.std.proofs.lemmas.List.{get_or_push, get_or_append_left}
 use Rattle.std.proofs.lemmas.Nat.Bits.{bit_at_above}
 use Rattle.wh_words.specs.LetterSets.{in_set}
 use Rattle.wh_words.specs.Flows.{sum_below, where_in, degree}
-use Rattle.wh_flow.specs.Nets.{Net, IsNet, cell}
+use Rattle.wh_flow.specs.Tables.{cell}
+use Rattle.wh_flow.specs.Nets.{Net, IsNet}
 use Rattle.wh_flow.proofs.Sums.{sum-same, sum-zero, sum-one}
 use Rattle.wh_flow.proofs.Reached.{none_seen}
 use Rattle.wh_moves.proofs.Masks.{added_same, added_other}

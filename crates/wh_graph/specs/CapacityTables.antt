@@ -4,7 +4,7 @@ use Rattle.wh_words.specs.LetterSets.{in_set}
 use Rattle.wh_words.specs.Flows.{sum_below, where_in, capacity_of_set}
 use Rattle.wh_words.specs.Tuples.{TupleData}
 use Rattle.wh_words.specs.Edges.{cap}
-use Rattle.wh_flow.specs.Nets.{cell}
+use Rattle.wh_flow.specs.Tables.{cell}
 
 -- The list has a number for each set below n, which is that of the function.
 pub record IsTable (f : ℕ → ℕ) (n : ℕ) (counts : List ℕ) : Type 0 where

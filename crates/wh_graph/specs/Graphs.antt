@@ -7,7 +7,8 @@ use Rattle.wh_words.specs.Letters.{inverse_letter}
 use Rattle.wh_words.specs.LetterSets.{in_set}
 use Rattle.wh_words.specs.Flows.{degree, capacity_of_set, Separates, IsLeastCut}
 use Rattle.wh_words.specs.CapacityTraces.{IsFlatByCapacitiesAt, IsLeastCapacityCut}
-use Rattle.wh_flow.specs.Nets.{Net, cell}
+use Rattle.wh_flow.specs.Tables.{cell}
+use Rattle.wh_flow.specs.Nets.{Net}
 
 -- The network is the Whitehead graph of a tuple: it has the rank, and for each two letters the number of edges that join them.
 pub record IsGraph (net : Net) (t : TupleData) : Type 0 where

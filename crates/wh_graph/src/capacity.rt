@@ -3,7 +3,7 @@ ghost use Rattle.std.specs.Prelude.{◌≡◌, ◌*◌, ◌≤◌, not};
 ghost use Rattle.wh_words.specs.Limits.{most_letters};
 ghost use Rattle.wh_words.specs.LetterSets.{in_set};
 ghost use Rattle.wh_words.specs.Flows.{sum_below, where_in, degree, capacity_of_set};
-ghost use Rattle.wh_flow.specs.Nets.{cell};
+ghost use Rattle.wh_flow.specs.Tables.{cell};
 
 use wh_flow::Net;
 use wh_words::{Letter, LetterSet};

@@ -4,7 +4,8 @@ ghost use Rattle.wh_words.specs.Limits.{most_letters};
 ghost use Rattle.wh_words.specs.Words.{IsOfRank};
 ghost use Rattle.wh_words.specs.CyclicWords.{IsCyclicallyReduced};
 ghost use Rattle.wh_words.specs.Edges.{joins, word_edges};
-ghost use Rattle.wh_flow.specs.Nets.{cell, edge_count};
+ghost use Rattle.wh_flow.specs.Tables.{cell};
+ghost use Rattle.wh_flow.specs.Nets.{edge_count};
 ghost use Rattle.wh_graph.specs.Graphs.{IsGraph};
 
 use wh_flow::Net;

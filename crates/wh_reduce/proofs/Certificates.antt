@@ -6,7 +6,7 @@ use Rattle.wh_words.specs.Tuples.{TupleData, IsTuple}
 use Rattle.wh_words.specs.CapacityTraces.{IsFlatByCapacities}
 use Rattle.wh_words.specs.Flows.{outflow, inflow, capacity_of_set}
 use Rattle.wh_words.specs.TupleFlows.{edge_table}
-use Rattle.wh_flow.specs.Nets.{cell}
+use Rattle.wh_flow.specs.Tables.{cell}
 use Rattle.wh_flow.proofs.Cuts.{at-most}
 use Rattle.wh_flow.proofs.FirstFlows.{first-one}
 use Rattle.wh_graph.proofs.EdgeTables.{edges_capacity}

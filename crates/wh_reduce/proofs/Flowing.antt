@@ -9,7 +9,8 @@ use Rattle.wh_words.specs.Tuples.{TupleData, IsTuple}
 use Rattle.wh_words.specs.CapacityTraces.{IsFlatByCapacities}
 use Rattle.wh_words.specs.Flows.{degree, IsFlow, IsFirstFlow, HasValue, HaveOneValue, FillsLeastCut}
 use Rattle.wh_words.specs.TupleFlows.{edge_table, IsFlowOfLetter}
-use Rattle.wh_flow.specs.Nets.{Net, cell}
+use Rattle.wh_flow.specs.Tables.{cell, IsTable}
+use Rattle.wh_flow.specs.Nets.{Net}
 use Rattle.wh_flow.proofs.Cuts.{value_degree}
 use Rattle.wh_graph.specs.Graphs.{IsGraph}
 use Rattle.wh_graph.proofs.NetworkCuts.{graph_flat}
@@ -45,13 +46,13 @@ module _ (net : Net) (t : TupleData) (is : IsTuple t) (rank : t.rank ≤ 26) (gr
 -- The flows of the first generators.
 pub record AreFlowsBelow (t : TupleData) (n : ℕ) (flows : List (List ℕ)) : Type 0 where
   pub count : length flows ≡ n
-  pub sizes : All (λ f. length f ≡ 2704) flows
+  pub tables : All IsTable flows
   pub each : (generator : ℕ) → generator < n → IsFlowOfLetter t (2 * generator) (cell (get_or flows generator []))
 
-pub flows_more : (t : TupleData) (n a : ℕ) (flows : List (List ℕ)) (f : List ℕ) → a ≡ 2 * n → AreFlowsBelow t n flows → length f ≡ 2704 → IsFlowOfLetter t a (cell f) → AreFlowsBelow t (n + 1) (flows ++ f ∷ [])
-flows_more t n a flows f e are size flow = record {
+pub flows_more : (t : TupleData) (n a : ℕ) (flows : List (List ℕ)) (f : List ℕ) → a ≡ 2 * n → AreFlowsBelow t n flows → IsTable f → IsFlowOfLetter t a (cell f) → AreFlowsBelow t (n + 1) (flows ++ f ∷ [])
+flows_more t n a flows f e are table flow = record {
   count = omega (arith, length-append flows (f ∷ []), are.count);
-  sizes = All-push (λ h. length h ≡ 2704) flows f are.sizes size;
+  tables = All-push IsTable flows f are.tables table;
   each = λ g l. elim (cases_lt g n) [
     | inl k ↦ subst (λ (h : List ℕ). IsFlowOfLetter t (2 * g) (cell h)) (sym (get_or_append_left flows (f ∷ []) [] g (omega (arith, k, are.count)))) (are.each g k)
     | inr k ↦

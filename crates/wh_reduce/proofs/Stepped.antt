@@ -9,7 +9,8 @@ use Rattle.wh_words.specs.Moves.{Move, IsCut, cut_move}
 use Rattle.wh_words.specs.CapacityTraces.{IsFlatByCapacities, IsFlatByCapacitiesAt, IsLeastCapacityCut, IsCapacityStep}
 use Rattle.wh_words.specs.Edges.{cap, deg}
 use Rattle.wh_words.specs.Flows.{degree, capacity_of_set, IsLeastCut}
-use Rattle.wh_flow.specs.Nets.{Net, cell}
+use Rattle.wh_flow.specs.Tables.{cell}
+use Rattle.wh_flow.specs.Nets.{Net}
 use Rattle.wh_graph.specs.Graphs.{IsGraph}
 use Rattle.wh_graph.proofs.NetworkCuts.{graph_least_cut, graph_flat}
 use Rattle.wh_graph.proofs.EdgeTables.{graph_capacity, graph_degree}

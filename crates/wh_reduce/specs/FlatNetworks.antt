@@ -3,7 +3,8 @@ use Rattle.std.specs.Prelude.{ℕ, ◌*◌, ◌^◌, ◌<◌, ◌≤◌, Bool}
 use Rattle.wh_words.specs.Letters.{inverse_letter}
 use Rattle.wh_words.specs.LetterSets.{in_set}
 use Rattle.wh_words.specs.Flows.{degree, capacity_of_set, Separates, IsLeastCut}
-use Rattle.wh_flow.specs.Nets.{Net, cell}
+use Rattle.wh_flow.specs.Tables.{cell}
+use Rattle.wh_flow.specs.Nets.{Net}
 
 -- No set that separates a letter from its inverse has a capacity below the letter's degree.
 abbrev pub IsFlatNetworkAt : Net → ℕ → Type 0

@@ -7,7 +7,7 @@ use Rattle.wh_words.specs.Flows.{IsFlow, HasValue}
 use Rattle.wh_words.specs.Edges.{deg}
 use Rattle.wh_words.specs.Letters.{inverse_letter}
 use Rattle.wh_words.specs.TupleFlows.{edge_table}
-use Rattle.wh_flow.specs.Nets.{cell}
+use Rattle.wh_flow.specs.Tables.{cell}
 use Rattle.wh_reduce.specs.FlowLists.{AreFlows}
 
 -- For each generator of a tuple, counted from 0, there is a flow from it to its inverse that has its degree as its value.

@@ -1,10 +1,10 @@
 //! The flows that show that a tuple is flat.
-ghost use Rattle.std.specs.Prelude.{◌≡◌, ◌*◌, ◌<◌, length, IfOk};
+ghost use Rattle.std.specs.Prelude.{◌≡◌, ◌*◌, ◌<◌, IfOk};
 ghost use Rattle.wh_words.specs.Letters.{inverse_letter};
 ghost use Rattle.wh_words.specs.Tuples.{IsRoomed};
 ghost use Rattle.wh_words.specs.Flows.{IsFirstFlow, HasValue, degree};
 ghost use Rattle.wh_words.specs.CapacityTraces.{IsFlatByCapacities};
-ghost use Rattle.wh_flow.specs.Nets.{cell};
+ghost use Rattle.wh_flow.specs.Tables.{IsTable, cell};
 ghost use Rattle.wh_reduce.specs.FlatNetworks.{IsFlatNetworkAt};
 ghost use Rattle.wh_reduce.specs.FlowLists.{AreFlows};
 
@@ -18,7 +18,7 @@ fn flow_of(net: &Net, letter: Letter) -> Flow
     requires index { letter < 52 }
     requires of_rank { letter < 2 * net.now.rank }
     requires flat { IsFlatNetworkAt net.now letter }
-    ensures size { length result ≡ 2704 }
+    ensures table { IsTable result }
     ensures first { IsFirstFlow (cell net.now.cells) (cell result) letter (inverse_letter letter) }
     ensures value { HasValue (cell result) letter (degree (cell net.now.cells) letter) }
 {

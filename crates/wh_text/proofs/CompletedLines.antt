@@ -24,6 +24,7 @@ use Rattle.wh_text.specs.Certificates.{in_answer, tuple_after, like_after, moves
 use Rattle.wh_text.specs.CertificateTexts.{IsTupleRow, IsLikeRow, IsMovesRow, IsFlowRow, IsLevelText}
 use Rattle.wh_text.proofs.ExactLines.{tell_like, after_shape, IsSideRead, SideParts, side_there, SizeRow, level_there, number_is_row, exact_like, exact_moves, exact_flow}
 use Rattle.wh_text.proofs.FirstLines.{tuple_in, like_in, moves_in}
+use Rattle.wh_flow.specs.Tables.{zero_table}
 
 -- ---- tuples
 -- so many empty words
@@ -75,13 +76,13 @@ still_shown = record {
       (All-cons IsShown (decimal 0) [] (decimal_shown 0 (omega arith)) (All-nil IsShown));
 }
 
-still_told : (n : ℕ) → 1 ≤ n → IsFlowRow n still_row (record { head = (0, 0); table = replicate 2704 0 })
+still_told : (n : ℕ) → 1 ≤ n → IsFlowRow n still_row (record { head = (0, 0); table = zero_table })
 still_told n h = (refl, record { letter = omega (arith, h); value = omega arith; pairs = []; of_rank = All-nil (IsPairOf n); rise = tt; spelled = refl; table = refl })
 
 pub completes_flow : (n : ℕ) → 1 ≤ n → Completes (flow_after n) (OneRow (IsFlowRow n))
 unfolding flow_after
 completes_flow n h =
-    completes_line (codes "flow") (λ k. or_bad_line k.number (flow_in n k.fields)) (IsFlowRow n) still_row (record { head = (0, 0); table = replicate 2704 0 })
+    completes_line (codes "flow") (λ k. or_bad_line k.number (flow_in n k.fields)) (IsFlowRow n) still_row (record { head = (0, 0); table = zero_table })
     (still_told n h) still_shown (λ k m e. bad_line_is k.number m (flow_in n k.fields) e)
 
 -- ---- sides

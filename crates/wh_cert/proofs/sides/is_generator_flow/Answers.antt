@@ -2,7 +2,7 @@ use Rattle.std.proofs.Common.{◌≡◌, ℕ, ◌*◌, sym, ◌∙◌, subst, ar
 use Rattle.std.proofs.lemmas.Bool.{false≢true}
 use Rattle.wh_words.specs.Letters.{inverse_letter}
 use Rattle.wh_words.specs.Flows.{IsFlow}
-use Rattle.wh_flow.specs.Nets.{cell}
+use Rattle.wh_flow.specs.Tables.{cell}
 use Rattle.wh_cert.proofs.Flowing.{flow_tested, flow_degree, flow_value}
 use Rattle.wh_cert.proofs.sides.is_generator_flow.Goals as goal
 

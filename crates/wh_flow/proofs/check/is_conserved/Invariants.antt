@@ -1,6 +1,6 @@
 use Rattle.std.proofs.Common.{◌≡◌, ◌≢◌, ℕ, ◌<◌}
 use Rattle.wh_words.specs.Flows.{outflow, inflow}
-use Rattle.wh_flow.specs.Nets.{cell}
+use Rattle.wh_flow.specs.Tables.{cell}
 use Rattle.wh_flow.proofs.check.is_conserved.Given as goal
 
 abbrev pub invariant-loop-x : goal.invariant-loop-x

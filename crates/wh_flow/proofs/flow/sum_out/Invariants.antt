@@ -1,6 +1,6 @@
 use Rattle.std.proofs.Common.{◌≡◌, ◌≤◌, ◌*◌}
 use Rattle.wh_words.specs.Flows.{sum_below}
-use Rattle.wh_flow.specs.Nets.{cell}
+use Rattle.wh_flow.specs.Tables.{cell}
 use Rattle.wh_flow.proofs.flow.sum_out.Given as goal
 
 abbrev pub invariant-loop-y : goal.invariant-loop-y

@@ -1,5 +1,5 @@
 use Rattle.std.proofs.Common.{ap, ◌∙◌, arith}
-use Rattle.wh_flow.specs.Nets.{cell}
+use Rattle.wh_flow.specs.Tables.{cell}
 use Rattle.wh_graph.proofs.CellSums.{none_below, deg_more, deg_whole, cell_most}
 use Rattle.wh_graph.proofs.capacity.deg.Goals as goal
 

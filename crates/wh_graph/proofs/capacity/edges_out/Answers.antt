@@ -1,7 +1,7 @@
 use Rattle.std.proofs.Common.{◌≡◌, not, sym, ap, ◌∙◌, arith}
 use Rattle.wh_words.specs.LetterSets.{in_set}
 use Rattle.wh_words.specs.Flows.{where_in}
-use Rattle.wh_flow.specs.Nets.{cell}
+use Rattle.wh_flow.specs.Tables.{cell}
 use Rattle.wh_graph.proofs.CellSums.{none_below, out_more, out_same, out_whole, cell_most}
 use Rattle.wh_graph.proofs.capacity.edges_out.Goals as goal
 use Rattle.wh_graph.proofs.capacity.edges_out.Goals.{then-not-contains, else-not-contains}

@@ -1,6 +1,7 @@
 use Rattle.std.proofs.Common.{◌≡◌, ℕ, ◌+◌, ◌<◌, take, count_by}
 use Rattle.wh_words.specs.Edges.{joins, word_edges}
-use Rattle.wh_flow.specs.Nets.{cell, edge_count}
+use Rattle.wh_flow.specs.Tables.{cell}
+use Rattle.wh_flow.specs.Nets.{edge_count}
 use Rattle.wh_graph.proofs.WordLoops.{letter_before}
 use Rattle.wh_graph.proofs.whitehead.add_word.Given as goal
 

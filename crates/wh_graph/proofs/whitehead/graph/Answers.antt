@@ -1,7 +1,8 @@
 use Rattle.std.proofs.Common.{ap, ◌∙◌, arith}
 use Rattle.std.proofs.lemmas.List.{take_all}
 use Rattle.wh_words.specs.Edges.{joins}
-use Rattle.wh_flow.specs.Nets.{Net, cell}
+use Rattle.wh_flow.specs.Tables.{cell}
+use Rattle.wh_flow.specs.Nets.{Net}
 use Rattle.wh_flow.proofs.Cells.{cell-zero}
 use Rattle.wh_graph.proofs.WordLoops.{words_count, count_words, word_is}
 use Rattle.wh_graph.proofs.whitehead.graph.Goals as goal

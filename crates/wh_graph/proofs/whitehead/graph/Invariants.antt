@@ -1,7 +1,8 @@
 use Rattle.std.proofs.Common.{◌≡◌, ℕ, ◌<◌, take, length}
 use Rattle.std.specs.List.{sum_by}
 use Rattle.wh_words.specs.Edges.{joins}
-use Rattle.wh_flow.specs.Nets.{cell, edge_count}
+use Rattle.wh_flow.specs.Tables.{cell}
+use Rattle.wh_flow.specs.Nets.{edge_count}
 use Rattle.wh_graph.proofs.WordLoops.{words_count}
 use Rattle.wh_graph.proofs.whitehead.graph.Given as goal
 

@@ -1,6 +1,6 @@
 use Rattle.std.proofs.Common.{sym, ◌∙◌, subst}
 use Rattle.wh_words.specs.Flows.{IsFlow, FillsLeastCut}
-use Rattle.wh_flow.specs.Nets.{cell}
+use Rattle.wh_flow.specs.Tables.{cell}
 use Rattle.wh_words.proofs.FreeReduction.{inverse-other}
 use Rattle.wh_reduce.proofs.Flowing.{flat_value}
 use Rattle.wh_reduce.proofs.generator_flows.flow_of.Goals as goal

@@ -10,7 +10,7 @@ flow_of-requires-clause-flat c =
 pub loop-generator-preserved : goal.loop-generator-preserved
 loop-generator-preserved c =
     subst (AreFlowsBelow c.args.tuple.now.plain (c.loop-generator.generator + 1)) (sym c.in_ok-push.ensures.items)
-    (flows_more c.args.tuple.now.plain c.loop-generator.generator c.of_index.result c.loop-generator.flows.items c.flow_of.result c.of_index.ensures c.loop-generator.invariant c.flow_of.ensures.size
+    (flows_more c.args.tuple.now.plain c.loop-generator.generator c.of_index.result c.loop-generator.flows.items c.flow_of.result c.of_index.ensures c.loop-generator.invariant c.flow_of.ensures.table
     (flow_of_letter c.graph-net.result c.args.tuple.now.plain c.rank.ensures.roomed.tuple (omega (arith, c.rank.ensures.rank, c.get-rank.ensures.greatest)) c.graph-net.ensures
     c.flow_of.result c.of_index.result (omega (arith, c.of_index.ensures, c.loop-generator-test.true, c.get-rank.ensures.greatest, c.get-rank.ensures.same))
     c.flow_of.ensures.first c.flow_of.ensures.value))
@@ -20,6 +20,6 @@ returns-clause-flows c =
     let all : c.loop-generator.generator ≡ c.args.tuple.now.plain.rank = omega (arith, c.loop-generator-test.false, c.loop-generator.auto.generator-end, c.get-rank.ensures.same, c.rank.ensures.rank) in
     record {
       count = c.loop-generator.invariant.count ∙ all;
-      sizes = c.loop-generator.invariant.sizes;
+      tables = c.loop-generator.invariant.tables;
       each = λ g l. c.loop-generator.invariant.each g (omega (arith, l, all));
     }
