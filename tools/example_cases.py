@@ -45,18 +45,5 @@ def compare():
     return agree
 
 
-MODES = {"write": write, "compare": compare}
-
-
-def main(words):
-    if words == ["--help"]:
-        print(__doc__)
-        return 0
-    if len(words) != 1 or words[0] not in MODES:
-        print(__doc__, file=sys.stderr)
-        return 2
-    return 0 if MODES[words[0]]() else 1
-
-
 if __name__ == "__main__":
-    sys.exit(main(sys.argv[1:]))
+    sys.exit(table.status_of(sys.argv[1:], __doc__, {"write": write, "compare": compare}))

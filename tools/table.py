@@ -10,6 +10,7 @@ with the last one, and then the examples.
 
 import pathlib
 import re
+import sys
 import typing
 
 ROOT = pathlib.Path(__file__).parent.parent
@@ -93,3 +94,14 @@ def write(parts):
     made = [*parts.problems, *parts.certificates, *parts.examples]
     (ROWS / "stdin").write_bytes(b"".join(case.stdin() for case in made))
     (ROWS / "stdout").write_bytes(b"".join(case.stdout() for case in made))
+
+
+def status_of(words, usage, modes):
+    """The status of a tool that is called with these words: one is the name of a mode, which tells whether all is well."""
+    if words == ["--help"]:
+        print(usage)
+        return 0
+    if len(words) != 1 or words[0] not in modes:
+        print(usage, file=sys.stderr)
+        return 2
+    return 0 if modes[words[0]]() else 1

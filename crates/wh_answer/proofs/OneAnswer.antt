@@ -1,5 +1,5 @@
 -- A problem has one answer, as far as its text and its status go.
-use Rattle.std.proofs.Common.{◌≡◌, ◌≢◌, ◌⊎◌, ℕ, ◌<◌, ◌≤◌, List, [], ◌∷◌, ◌++◌, length, map, refl, sym, ap, ap₂, ◌∙◌, subst, arith, inl, inr}
+use Rattle.std.proofs.Common.{◌≡◌, ◌≢◌, ◌⊎◌, ℕ, ◌<◌, ◌≤◌, List, [], ◌∷◌, ◌++◌, length, refl, sym, ap, ap₂, ◌∙◌, subst, arith, inl, inr}
 use Rattle.std.specs.Prelude.{codes}
 use Rattle.std.proofs.lemmas.List.{length-map}
 use Rattle.wh_words.specs.Tuples.{TupleData, Tuple, IsTuple, tuple_length}
@@ -19,7 +19,9 @@ use Rattle.wh_text.specs.Problems.ProblemData.{reduce, decide}
 use Rattle.wh_text.specs.AnswerData.{VerdictData, plains, side_of, verdict_of}
 use Rattle.wh_fields.specs.TupleFields.{words_row}
 use Rattle.wh_lines.specs.Rows.{Row, number_row, rows_text}
-use Rattle.wh_text.specs.AnswerTexts.{side_rows, level_rows, verdict_row, verdict_rows, heading_row, done_row, answer_text}
+use Rattle.wh_text.specs.declared.command.Command.TheVariants as commands
+use Rattle.wh_text.specs.Commands.{heading_row}
+use Rattle.wh_text.specs.AnswerTexts.{side_rows, level_rows, verdict_row, verdict_rows, done_row, answer_text}
 use Rattle.wh_text.specs.Statuses.{verdict_status}
 use Rattle.wh_answer.specs.Answers.{IsSideOf, EndApart, Decides}
 use Rattle.wh_answer.specs.Answers.Decides.{other_lengths, one_end, too_long, too_many, joined, off_level}
@@ -197,10 +199,10 @@ verdict_one limit s t a b is low js just i j =
 -- ---- the answer
 -- The texts of answers for these tuples and these rows.
 reduce_text : TupleData → List Row → List ℕ
-reduce_text t rows = rows_text (heading_row (codes "reduce") ∷ number_row (codes "rank") t.rank ∷ words_row (codes "tuple") t.words ∷ rows ++ done_row ∷ [])
+reduce_text t rows = rows_text (heading_row commands.Reduce ∷ number_row (codes "rank") t.rank ∷ words_row (codes "tuple") t.words ∷ rows ++ done_row ∷ [])
 
 decide_text : TupleData → TupleData → List Row → List ℕ
-decide_text s t rows = rows_text (heading_row (codes "decide") ∷ number_row (codes "rank") s.rank ∷ words_row (codes "first") s.words ∷ words_row (codes "second") t.words ∷ rows ++ done_row ∷ [])
+decide_text s t rows = rows_text (heading_row commands.Decide ∷ number_row (codes "rank") s.rank ∷ words_row (codes "first") s.words ∷ words_row (codes "second") t.words ∷ rows ++ done_row ∷ [])
 
 pub answer_one : AnswerIsUnique
 unfolding answer_text reduce_text decide_text

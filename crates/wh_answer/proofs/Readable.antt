@@ -16,10 +16,12 @@ use Rattle.wh_text.specs.declared.answer.Verdict.{Verdict}
 use Rattle.wh_text.specs.declared.answer.Verdict.TheVariants.{Yes}
 use Rattle.wh_text.specs.declared.answer.Answer.TheVariants as answers
 use Rattle.wh_text.specs.Problems.ProblemData.{reduce, decide}
-use Rattle.wh_lines.specs.Rows.{Row, row_text, rows_text, number_row}
+use Rattle.wh_lines.specs.Rows.{row_text, rows_text, number_row}
 use Rattle.wh_lines.proofs.PrintedRows.{rows_append}
 use Rattle.wh_fields.specs.TupleFields.{words_row, IsTupleOf}
-use Rattle.wh_text.specs.AnswerTexts.{side_rows, level_rows, verdict_row, verdict_rows, heading_row, done_row, head_rows, body_rows, answer_text}
+use Rattle.wh_text.specs.declared.command.Command.TheVariants as commands
+use Rattle.wh_text.specs.Commands.{heading_row}
+use Rattle.wh_text.specs.AnswerTexts.{side_rows, level_rows, verdict_row, verdict_rows, done_row, head_rows, body_rows, answer_text}
 use Rattle.wh_text.specs.AnswerData.{plains, side_of, verdict_of, answer_of}
 use Rattle.wh_text.specs.AnswerData.{AnswerData}
 use Rattle.wh_text.specs.AnswerData.AnswerData.{reduce as reduced, decide as decided}
@@ -163,7 +165,7 @@ reduce_readable t s (is, least, low) own =
     let tuple = row_text (words_row (codes "tuple") t.plain.words) in
     let head : length (rows_text (head_rows (reduced t.plain (side_of s)))) ≤ 5000 = omega (
       arith,
-      length-append (row_text (heading_row (codes "reduce"))) (rank ++ (tuple ++ [])),
+      length-append (row_text (heading_row commands.Reduce)) (rank ++ (tuple ++ [])),
       length-append rank (tuple ++ []),
       length-append tuple [],
       number_row-length (codes "rank") 2 t.plain.rank (omega arith) (omega (arith, low)) (omega (arith, low)),
@@ -187,7 +189,7 @@ decide_readable limit s t v h (is, js, ranks, least, low, counts) d x =
     let word = row_text (verdict_row (verdict_of v)) in
     let head : length (rows_text (head_rows (decided s.plain t.plain (verdict_of v)))) ≤ 10000 = omega (
       arith,
-      length-append (row_text (heading_row (codes "decide"))) (rank ++ (first ++ (second ++ (word ++ [])))),
+      length-append (row_text (heading_row commands.Decide)) (rank ++ (first ++ (second ++ (word ++ [])))),
       length-append rank (first ++ (second ++ (word ++ []))),
       length-append first (second ++ (word ++ [])),
       length-append second (word ++ []),

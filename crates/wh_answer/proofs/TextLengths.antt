@@ -1,5 +1,5 @@
 -- How long the text of an answer is at most.
-use Rattle.std.proofs.Common.{ℕ, zero, suc, ◌+◌, ◌*◌, ◌^◌, ◌<◌, ◌≤◌, ◌==◌, ◌||◌, cond, List, [], ◌∷◌, ◌++◌, length, get_or, sym, subst, arith, length-append}
+use Rattle.std.proofs.Common.{ℕ, zero, suc, ◌+◌, ◌*◌, ◌^◌, ◌<◌, ◌≤◌, ◌==◌, ◌||◌, List, [], ◌∷◌, ◌++◌, length, get_or, sym, subst, arith, length-append}
 use Rattle.std.specs.Prelude.{codes, decimal, map}
 use Rattle.std.specs.List.{All, sum_by}
 use Rattle.std.proofs.lemmas.Bool.{cond_both}
@@ -12,7 +12,7 @@ use Rattle.wh_words.specs.Tuples.{TupleData, tuple_length}
 use Rattle.wh_words.specs.Moves.{Move, Kind, IsKind}
 use Rattle.wh_words.specs.Moves.Kind.{swap, invert, cut}
 use Rattle.wh_flow.specs.Nets.{cell}
-use Rattle.wh_lines.specs.Rows.{Row, fields_text, row_bytes, row_text, rows_text, number_row}
+use Rattle.wh_lines.specs.Rows.{fields_text, row_text, rows_text, number_row}
 use Rattle.wh_fields.specs.Repeated.{below}
 use Rattle.wh_fields.specs.Words.{letter_text, word_text}
 use Rattle.wh_fields.specs.MoveFields.{set_item, set_text, kind_text, moves_row, IsMoveOf}

@@ -1,12 +1,10 @@
 -- Of a certificate one thing is found: the first demand that isn't met is one. For the law on verdicts.
-use Rattle.std.proofs.Common.{◌≡◌, ℕ, List, [], ◌∷◌, ◌++◌, get_or, sym, ap, ap₂, ◌∙◌, refl, subst, arith}
+use Rattle.std.proofs.Common.{◌≡◌, ℕ, List, [], ◌∷◌, ◌++◌, get_or, sym, ap, ap₂, ◌∙◌, refl, subst}
 use Rattle.std.proofs.lemmas.List.Elements.{All-head, All-tail}
-use Rattle.wh_text.specs.AnswerData.{CertificateData}
 use Rattle.wh_cert.specs.declared.checked.Rule.{Rule}
-use Rattle.wh_cert.specs.declared.checked.Checked.{Checked}
 use Rattle.wh_cert.specs.declared.checked.Checked.TheVariants.{Valid, Invalid}
-use Rattle.wh_cert.specs.Demands.{Demand, rule_of, IsMet, Placed, asked}
-use Rattle.wh_cert.specs.Checks.{AreMet, IsFirstBroken, Checks}
+use Rattle.wh_cert.specs.Demands.{rule_of, IsMet, Placed, asked}
+use Rattle.wh_cert.specs.Checks.{AreMet, IsFirstBroken}
 use Rattle.wh_cert.specs.Laws.{FindsOne}
 
 -- the demands that aren't met, behind two lists of demands that are

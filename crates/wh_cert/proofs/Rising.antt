@@ -8,6 +8,7 @@ use Rattle.std.specs.declared.cmp.Ordering.{Ordering}
 use Rattle.std.specs.declared.cmp.Ordering.TheVariants.{Less, Equal, Greater}
 use Rattle.std.proofs.lemmas.Bool.{true≢false, false≢true, eqb-true, eq-eqb}
 use Rattle.std.proofs.lemmas.List.{get_or-map, length-map}
+use Rattle.wh_words.specs.Limits.{most_level_rank}
 use Rattle.wh_words.specs.Tuples.{TupleData, Tuple, tuple_cmp}
 use Rattle.wh_text.specs.AnswerData.{plains}
 use Rattle.wh_cert.specs.Demands.{Rises, tuple_at}
@@ -54,7 +55,7 @@ pub plain_listed : (ts : List Tuple) (k : ℕ) (t : Tuple) → k < length ts →
 plain_listed ts k t l e = (k, omega (arith, l, length-map ts (λ (u : Tuple). u.plain)), get_or-map (λ (u : Tuple). u.plain) ts k t t.plain l ∙ ap (λ (u : Tuple). u.plain) (sym e))
 
 -- The ranks of tuples are those of their data.
-pub low_ranks : (n : ℕ) (ts : List Tuple) → All (λ t. t.rank ≡ n) (plains ts) → n ≤ 6 → All (λ t. t.plain.rank ≤ 6) ts
+pub low_ranks : (n : ℕ) (ts : List Tuple) → All (λ t. t.rank ≡ n) (plains ts) → n ≤ most_level_rank → All (λ t. t.plain.rank ≤ most_level_rank) ts
 low_ranks n ts h low k d l =
     let own : (get_or (plains ts) k d.plain).rank ≡ n = h k d.plain (omega (arith, l, length-map ts (λ (u : Tuple). u.plain))) in
     omega (arith, own, ap (λ (t : TupleData). t.rank) (get_or-map (λ (u : Tuple). u.plain) ts k d d.plain l), low)

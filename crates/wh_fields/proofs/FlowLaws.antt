@@ -11,7 +11,7 @@ use Rattle.std.proofs.lemmas.Option.{option_and_then_some}
 use Rattle.wh_words.specs.Flows.{place}
 use Rattle.wh_lines.specs.Lines.{Field}
 use Rattle.wh_lines.specs.Numbers.{number}
-use Rattle.wh_lines.proofs.Equations.{split_fields}
+use Rattle.wh_lines.proofs.Equations.{split_fields, some_is}
 use Rattle.wh_lines.proofs.NumberLaws.{reads_numbers}
 use Rattle.wh_fields.specs.Words.{letter_of, letter_text}
 use Rattle.wh_fields.specs.FlowFields.{Pair, FlowData, pair_with, pair_in, pair_from, table_from, letter_in, small, flow_in}
@@ -19,9 +19,6 @@ use Rattle.wh_fields.specs.Laws.{pair_text, IsPairOf, PairsRise, with_pairs, IsF
 use Rattle.wh_fields.proofs.WordReadings.{letter_is}
 use Rattle.wh_fields.proofs.WordLaws.{letter_back}
 use Rattle.wh_fields.proofs.ReadFlows.{pair_back}
-
-some_is : {A : Type 0} (x y : A) → ◌≡◌ {A = Option A} (Some x) (Some y) → x ≡ y
-some_is x y e = cc
 
 -- ---- pairs
 -- bytes that spell a pair

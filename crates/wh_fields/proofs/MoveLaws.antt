@@ -19,12 +19,10 @@ use Rattle.wh_fields.specs.Words.{letter_of, letter_text}
 use Rattle.wh_fields.specs.MoveFields.{letter_from, set_from, swap_of, invert_of, cut_with, cut_of, kind_from, kind_in}
 use Rattle.wh_fields.specs.Laws.{RisesFrom, set_of, IsMoveField, ReadsMoves}
 use Rattle.wh_fields.specs.Laws.IsMoveField.{a_swap, an_inversion, a_cut}
+use Rattle.wh_lines.proofs.Equations.{some_is}
 use Rattle.wh_fields.proofs.WordReadings.{letter_is}
 use Rattle.wh_fields.proofs.WordLaws.{letter_back}
 use Rattle.wh_fields.proofs.ReadMoves.{number_kind}
-
-some_is : {A : Type 0} (x y : A) → ◌≡◌ {A = Option A} (Some x) (Some y) → x ≡ y
-some_is x y e = cc
 
 -- ---- sets
 -- one letter more, above all others

@@ -9,9 +9,9 @@ use std::alloc::Global;
 use wh_flow::Net;
 use wh_words::{Letter, OutOfMemory};
 
-/// How many sets there are of so many letters, which are 12 at most.
+/// How many sets there are of so many letters, at most those of the greatest rank of levels.
 pub fn count_sets(letters: u8) -> usize
-    requires { letters ≤ 12 }
+    requires { letters ≤ 2 * most_level_rank }
     ensures { result ≡ 2 ^ letters }
 {
     1 << letters

@@ -1,5 +1,5 @@
 -- What an equation between results, or between tests, tells of their parts: for the readers of items and all laws.
-use Rattle.std.proofs.Common.{◌≡◌, ◌≢◌, ℕ, ◌==◌, ◌≤◌, ltb, Bool, true, false, cond, List, [], ◌∷◌, map, refl, ap, ◌∙◌, subst, arith, Result, Ok, Err, inl, inr, ◌⊎◌}
+use Rattle.std.proofs.Common.{◌≡◌, ◌≢◌, ℕ, ◌==◌, ◌≤◌, ltb, Bool, true, false, cond, List, [], ◌∷◌, map, refl, ap, ◌∙◌, subst, arith, Option, Some, Result, Ok, Err, inl, inr, ◌⊎◌}
 use Rattle.std.specs.Prelude.{◌&&◌}
 use Rattle.std.proofs.lemmas.Bool.{eqb-true, false≢true}
 use Rattle.std.proofs.lemmas.Bool.Decides.{nat_tests}
@@ -19,6 +19,12 @@ bind_err (Err g) f d e = inl (cc)
 
 pub ok_is : {A : Type 0} (x y : A) → ◌≡◌ {A = Result A ReadError} (Ok x) (Ok y) → x ≡ y
 ok_is x y e = cc
+
+pub err_is : {A : Type 0} (d e : ReadError) → ◌≡◌ {A = Result A ReadError} (Err d) (Err e) → d ≡ e
+err_is d e h = cc
+
+pub some_is : {A : Type 0} (x y : A) → ◌≡◌ {A = Option A} (Some x) (Some y) → x ≡ y
+some_is x y e = cc
 
 -- what holds of one value holds of the other
 pub ok_same : {A : Type 0} (P : A → Type 0) (x y : A) → ◌≡◌ {A = Result A ReadError} (Ok x) (Ok y) → P x → P y

@@ -26,7 +26,9 @@ use Rattle.wh_text.specs.declared.command.Command.TheVariants as commands
 use Rattle.wh_text.specs.RankLines.{greatest_rank, rank_at, rank_after}
 use Rattle.wh_text.specs.AnswerData.VerdictData.{yes, no_length, no_level}
 use Rattle.wh_text.specs.AnswerData.AnswerData.{reduce, decide}
-use Rattle.wh_text.specs.AnswerTexts.{heading_row, done_row}
+use Rattle.wh_text.specs.Commands.{heading_row}
+use Rattle.wh_text.specs.AnswerTexts.{done_row}
+use Rattle.wh_text.proofs.CommandNames.{heading_shown}
 use Rattle.wh_text.specs.Certificates.{in_answer, tuple_after, like_after, moves_after, side_after, level_after, VerdictWord, verdict_in, sides_after, verdict_with, verdict_after, AnswerRead, reduced_after, decided_after, answer_with, heading_in, heading_after, done_after, with_end, answer_after}
 use Rattle.wh_text.specs.Certificates.VerdictWord.{a_yes, a_no_length, a_no_level}
 use Rattle.wh_text.specs.CertificateTexts.{IsTupleRow, IsLikeRow, IsMovesRow, IsLevelText, IsAnswerText}
@@ -108,16 +110,10 @@ completes_told commands.Reduce n some h = completes_reduced n some h
 completes_told commands.Decide n some h = completes_decided n some h
 
 -- ---- the heading and the rank
-heading_shown : IsShownRow (heading_row (codes "reduce"))
-heading_shown = record {
-  keyword = written_shown 119 (codes "hitehead") refl;
-  fields = All-cons IsShown (codes "1") (codes "reduce" ∷ []) (written_shown 49 [] refl) (All-cons IsShown (codes "reduce") [] (written_shown 114 (codes "educe") refl) (All-nil IsShown));
-}
-
 completes_heading : Completes heading_after (OneRow HeadingIs)
 unfolding heading_after
 completes_heading =
-    completes_line (codes "whitehead") (λ k. heading_in k.number k.fields) HeadingIs (heading_row (codes "reduce")) commands.Reduce refl heading_shown
+    completes_line (codes "whitehead") (λ k. heading_in k.number k.fields) HeadingIs (heading_row commands.Reduce) commands.Reduce refl (heading_shown commands.Reduce)
     (λ k m e. heading_in_line k.number m k.fields e)
 
 some_rank : (c : Command) → 1 ≤ greatest_rank c

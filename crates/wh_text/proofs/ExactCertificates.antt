@@ -1,6 +1,6 @@
 -- A certificate is read exactly from a text that is one: for the law on certificates.
-use Rattle.std.proofs.Common.{◌≡◌, ℕ, ◌≤◌, ltb, ◌==◌, Bool, true, false, cond, List, [], ◌∷◌, ◌++◌, length, map, refl, sym, ap, ◌∙◌, subst, arith, append-nil, Result, Ok, Err}
-use Rattle.std.specs.Prelude.{◌||◌, codes, decimal}
+use Rattle.std.proofs.Common.{◌≡◌, ℕ, ◌≤◌, ltb, ◌==◌, cond, List, [], ◌∷◌, ◌++◌, length, map, refl, sym, ap, ◌∙◌, subst, arith, append-nil, Result, Ok, Err}
+use Rattle.std.specs.Prelude.{codes, decimal}
 use Rattle.std.proofs.lemmas.Bool.{cond-false, eqb-true}
 use Rattle.wh_words.specs.Limits.{most_rank, most_level_rank}
 use Rattle.wh_words.specs.Tuples.{TupleData}
@@ -24,7 +24,9 @@ use Rattle.wh_text.specs.Limits.{most_answer_bytes}
 use Rattle.wh_text.specs.RankLines.{greatest_rank, rank_at, no_rank, rank_after}
 use Rattle.wh_text.specs.AnswerData.{AnswerData, CertificateData}
 use Rattle.wh_text.specs.AnswerData.AnswerData.{reduce, decide}
-use Rattle.wh_text.specs.AnswerTexts.{heading_row, verdict_row, done_row}
+use Rattle.wh_text.specs.Commands.{command_name, answer_version, heading_row}
+use Rattle.wh_text.specs.AnswerTexts.{verdict_row, done_row}
+use Rattle.wh_text.proofs.CommandNames.{heading_told, heading_back}
 use Rattle.wh_text.specs.Certificates.{in_answer, AnswerRead, answer_with, command_at, heading_in, heading_after, done_after, with_end, answer_after, certificate}
 use Rattle.wh_text.specs.CertificateTexts.{IsTupleRow, IsLikeRow, IsSideText, IsVerdictText, IsAnswerText, IsCertificateText, ReadsCertificates}
 use Rattle.wh_text.proofs.RankLaws.{rank_within, rank_is, rank_back}
@@ -32,49 +34,14 @@ use Rattle.wh_text.proofs.ExactLines.{same_row}
 use Rattle.wh_text.proofs.ExactAnswers.{one_then, then_one, alone, Reduced, Decided, Told, exact_told}
 
 -- ---- the heading
-abbrev pub command_word : Command → List ℕ
-command_word commands.Reduce = codes "reduce"
-command_word commands.Decide = codes "decide"
-
 abbrev pub HeadingIs : Row → Command → Type 0
-HeadingIs r c = r ≡ heading_row (command_word c)
-
-command_told : (l : ℕ) (word : List ℕ) (c : Command) → command_at l word ≡ Ok c → word ≡ command_word c
-command_told l word c e = by (are word (codes "reduce")) (are word (codes "decide")) (are word (codes "straighten") || (are word (codes "stabiliser") || are word (codes "gen"))) refl refl e
-  where
-    by : (s t u : Bool) → are word (codes "reduce") ≡ s → are word (codes "decide") ≡ t →
-        cond s (Ok commands.Reduce) (cond t (Ok commands.Decide) (cond u (Err (errors.NoCertificate l)) (Err (errors.BadLine l)))) ≡ Ok c → word ≡ command_word c
-    by true t u a b e = are_is word (codes "reduce") a ∙ ap command_word (ok_is commands.Reduce c e)
-    by false true u a b e = are_is word (codes "decide") b ∙ ap command_word (ok_is commands.Decide c e)
-    by false false true a b e = absurd (cc)
-    by false false false a b e = absurd (cc)
-
-command_back : (l : ℕ) (c : Command) → command_at l (command_word c) ≡ Ok c
-command_back l commands.Reduce = refl
-command_back l commands.Decide = refl
-
-heading_told : (l : ℕ) (fs : List Field) (c : Command) → heading_in l fs ≡ Ok c → map (λ f. f.bytes) fs ≡ codes "1" ∷ command_word c ∷ []
-heading_told l [] c e = absurd (cc)
-heading_told l (f ∷ []) c e = absurd (cc)
-heading_told l (f ∷ g ∷ []) c e =
-    let p = if_ok (are f.bytes (codes "1")) (errors.BadLine l) (command_at l g.bytes) c e in
-    ap (λ v. v ∷ g.bytes ∷ []) (are_is f.bytes (codes "1") p.0) ∙ ap (λ v. codes "1" ∷ v ∷ []) (command_told l g.bytes c p.1)
-heading_told l (f ∷ g ∷ h ∷ fs) c e = absurd (cc)
-
-heading_back : (l : ℕ) (c : Command) (fs : List Field) → map (λ f. f.bytes) fs ≡ codes "1" ∷ command_word c ∷ [] → heading_in l fs ≡ Ok c
-heading_back l c [] e = absurd (cc)
-heading_back l c (f ∷ []) e = absurd (cc)
-heading_back l c (f ∷ g ∷ []) e =
-    let b : f.bytes ≡ codes "1" = (cc) in
-    let d : g.bytes ≡ command_word c = (cc) in
-    ap (λ v. cond (are v (codes "1")) (command_at l g.bytes) (Err (errors.BadLine l))) b ∙ ap (command_at l) d ∙ command_back l c
-heading_back l c (f ∷ g ∷ h ∷ fs) e = absurd (cc)
+HeadingIs r c = r ≡ heading_row c
 
 pub exact_heading : Exact heading_after (OneRow HeadingIs)
 unfolding heading_after
 exact_heading =
     exact_line (codes "whitehead") (λ k. heading_in k.number k.fields) HeadingIs
-    (λ k c some is e. same_row k (codes "whitehead") (codes "1" ∷ command_word c ∷ []) is (heading_told k.number k.fields c e))
+    (λ k c some is e. same_row k (codes "whitehead") (answer_version ∷ command_name c ∷ []) is (heading_told k.number k.fields c e))
     (λ r k c tells is. (ap (λ (x : Row). x.keyword) is, heading_back k.number c k.fields (tells.same ∙ ap (λ (x : Row). x.fields) is)))
 
 -- ---- the rank
@@ -120,35 +87,35 @@ exact_body =
     (λ c. exact_when (λ p. refused_as in_answer (rank_after c p)) (λ n. answer_with c n.0 n.1) (OneRow (RankIs c)) (Told c) (exact_rank c)
     (λ n rows told. exact_told c n (omega (arith, told.one.most, rank_within c))))
 
-reduced_there : (n : ℕ) (rows : List Row) (x : AnswerRead) → 1 ≤ n → n ≤ most_rank → Reduced n rows x → IsAnswerText (heading_row (codes "reduce") ∷ number_row (codes "rank") n ∷ rows ++ done_row ∷ []) x.answer x.heads
+reduced_there : (n : ℕ) (rows : List Row) (x : AnswerRead) → 1 ≤ n → n ≤ most_rank → Reduced n rows x → IsAnswerText (heading_row commands.Reduce ∷ number_row (codes "rank") n ∷ rows ++ done_row ∷ []) x.answer x.heads
 reduced_there n rows x least most s =
     let h = one_then _ _ rows x s in
     let v = h.two in
     let side = alone (record { answer = reduce h.x v.x.side; heads = v.x.heads }) x h.later v.first v.second v.parts v.two in
-    let all : List Row = heading_row (codes "reduce") ∷ number_row (codes "rank") n ∷ rows ++ done_row ∷ [] in
-    let parts : all ≡ heading_row (codes "reduce") ∷ number_row (codes "rank") n ∷ h.head ∷ v.first ++ done_row ∷ [] =
-    ap (λ rs. heading_row (codes "reduce") ∷ number_row (codes "rank") n ∷ rs ++ done_row ∷ []) (h.parts ∙ ap (λ rs. h.head ∷ rs) side) in
+    let all : List Row = heading_row commands.Reduce ∷ number_row (codes "rank") n ∷ rows ++ done_row ∷ [] in
+    let parts : all ≡ heading_row commands.Reduce ∷ number_row (codes "rank") n ∷ h.head ∷ v.first ++ done_row ∷ [] =
+    ap (λ rs. heading_row commands.Reduce ∷ number_row (codes "rank") n ∷ rs ++ done_row ∷ []) (h.parts ∙ ap (λ rs. h.head ∷ rs) side) in
     subst (λ (y : AnswerRead). IsAnswerText all y.answer y.heads) v.two.same
-    (subst (λ (m : ℕ). (tuple_row : Row) × (side : List Row) × (all ≡ heading_row (codes "reduce") ∷ number_row (codes "rank") m ∷ tuple_row ∷ side ++ done_row ∷ []) × (1 ≤ m) × (m ≤ most_rank) × IsTupleRow (codes "tuple") m tuple_row h.x × IsSideText m (length h.x.words) side v.x.side v.x.heads)
+    (subst (λ (m : ℕ). (tuple_row : Row) × (side : List Row) × (all ≡ heading_row commands.Reduce ∷ number_row (codes "rank") m ∷ tuple_row ∷ side ++ done_row ∷ []) × (1 ≤ m) × (m ≤ most_rank) × IsTupleRow (codes "tuple") m tuple_row h.x × IsSideText m (length h.x.words) side v.x.side v.x.heads)
     (ap (λ (t : TupleData). t.rank) (sym h.one.cyclic))
     (h.head, v.first, parts, least, most, h.one, v.one))
 
-decided_there : (n : ℕ) (rows : List Row) (x : AnswerRead) → 1 ≤ n → n ≤ most_level_rank → Decided n rows x → IsAnswerText (heading_row (codes "decide") ∷ number_row (codes "rank") n ∷ rows ++ done_row ∷ []) x.answer x.heads
+decided_there : (n : ℕ) (rows : List Row) (x : AnswerRead) → 1 ≤ n → n ≤ most_level_rank → Decided n rows x → IsAnswerText (heading_row commands.Decide ∷ number_row (codes "rank") n ∷ rows ++ done_row ∷ []) x.answer x.heads
 decided_there n rows x least most s =
     let h = one_then _ _ rows x s in
     let g = one_then _ _ h.later x h.two in
     let v = g.two in
     let told = alone (record { answer = decide h.x g.x v.x.verdict; heads = v.x.heads }) x g.later v.first v.second v.parts v.two in
-    let all : List Row = heading_row (codes "decide") ∷ number_row (codes "rank") n ∷ rows ++ done_row ∷ [] in
+    let all : List Row = heading_row commands.Decide ∷ number_row (codes "rank") n ∷ rows ++ done_row ∷ [] in
     let row = verdict_row v.x.verdict in
-    let parts : all ≡ heading_row (codes "decide") ∷ number_row (codes "rank") n ∷ h.head ∷ g.head ∷ row ∷ v.one.after ++ done_row ∷ [] =
-    ap (λ rs. heading_row (codes "decide") ∷ number_row (codes "rank") n ∷ rs ++ done_row ∷ []) (h.parts ∙ ap (λ rs. h.head ∷ rs) (g.parts ∙ ap (λ rs. g.head ∷ rs) (told ∙ v.one.parts))) in
+    let parts : all ≡ heading_row commands.Decide ∷ number_row (codes "rank") n ∷ h.head ∷ g.head ∷ row ∷ v.one.after ++ done_row ∷ [] =
+    ap (λ rs. heading_row commands.Decide ∷ number_row (codes "rank") n ∷ rs ++ done_row ∷ []) (h.parts ∙ ap (λ rs. h.head ∷ rs) (g.parts ∙ ap (λ rs. g.head ∷ rs) (told ∙ v.one.parts))) in
     subst (λ (y : AnswerRead). IsAnswerText all y.answer y.heads) v.two.same
-    (subst (λ (m : ℕ). (first_row : Row) × (second_row : Row) × (after : List Row) × (all ≡ heading_row (codes "decide") ∷ number_row (codes "rank") m ∷ first_row ∷ second_row ∷ row ∷ after ++ done_row ∷ []) × (1 ≤ m) × (m ≤ most_level_rank) × IsTupleRow (codes "first") m first_row h.x × IsLikeRow (codes "second") m (length h.x.words) second_row g.x × IsVerdictText m (length h.x.words) after v.x.verdict v.x.heads)
+    (subst (λ (m : ℕ). (first_row : Row) × (second_row : Row) × (after : List Row) × (all ≡ heading_row commands.Decide ∷ number_row (codes "rank") m ∷ first_row ∷ second_row ∷ row ∷ after ++ done_row ∷ []) × (1 ≤ m) × (m ≤ most_level_rank) × IsTupleRow (codes "first") m first_row h.x × IsLikeRow (codes "second") m (length h.x.words) second_row g.x × IsVerdictText m (length h.x.words) after v.x.verdict v.x.heads)
     (ap (λ (t : TupleData). t.rank) (sym h.one.cyclic))
     (h.head, g.head, v.one.after, parts, least, most, h.one, g.one, v.one.told))
 
-told_there : (c : Command) (n : ℕ) (rows : List Row) (x : AnswerRead) → 1 ≤ n → n ≤ greatest_rank c → Told c n rows x → IsAnswerText (heading_row (command_word c) ∷ number_row (codes "rank") n ∷ rows ++ done_row ∷ []) x.answer x.heads
+told_there : (c : Command) (n : ℕ) (rows : List Row) (x : AnswerRead) → 1 ≤ n → n ≤ greatest_rank c → Told c n rows x → IsAnswerText (heading_row c ∷ number_row (codes "rank") n ∷ rows ++ done_row ∷ []) x.answer x.heads
 told_there commands.Reduce n rows x least most s = reduced_there n rows x least most s
 told_there commands.Decide n rows x least most s = decided_there n rows x least most s
 
@@ -156,15 +123,15 @@ pub body_there : (rows : List Row) (x : AnswerRead) → Body rows x → IsAnswer
 body_there rows x s =
     let h = one_then _ _ rows x s in
     let g = one_then _ _ h.later x h.two in
-    let parts : rows ≡ heading_row (command_word h.x) ∷ number_row (codes "rank") g.x ∷ g.later =
-    h.parts ∙ ap (λ rs. h.head ∷ rs) g.parts ∙ ap (λ r. r ∷ g.head ∷ g.later) h.one ∙ ap (λ r. heading_row (command_word h.x) ∷ r ∷ g.later) g.one.spelled in
+    let parts : rows ≡ heading_row h.x ∷ number_row (codes "rank") g.x ∷ g.later =
+    h.parts ∙ ap (λ rs. h.head ∷ rs) g.parts ∙ ap (λ r. r ∷ g.head ∷ g.later) h.one ∙ ap (λ r. heading_row h.x ∷ r ∷ g.later) g.one.spelled in
     subst (λ (rs : List Row). IsAnswerText (rs ++ done_row ∷ []) x.answer x.heads) (sym parts) (told_there h.x g.x g.later x g.one.least g.one.most g.two)
 
-headed_back : (c : Command) (n : ℕ) (rows : List Row) (x : AnswerRead) → 1 ≤ n → n ≤ greatest_rank c → Told c n rows x → Body (heading_row (command_word c) ∷ number_row (codes "rank") n ∷ rows) x
+headed_back : (c : Command) (n : ℕ) (rows : List Row) (x : AnswerRead) → 1 ≤ n → n ≤ greatest_rank c → Told c n rows x → Body (heading_row c ∷ number_row (codes "rank") n ∷ rows) x
 headed_back c n rows x least most s =
-    then_one HeadingIs (λ c. Then (OneRow (RankIs c)) (Told c)) (heading_row (command_word c) ∷ number_row (codes "rank") n ∷ rows) x (record {
+    then_one HeadingIs (λ c. Then (OneRow (RankIs c)) (Told c)) (heading_row c ∷ number_row (codes "rank") n ∷ rows) x (record {
       x = c;
-      head = heading_row (command_word c);
+      head = heading_row c;
       later = number_row (codes "rank") n ∷ rows;
       parts = refl;
       one = refl;
@@ -180,7 +147,7 @@ headed_back c n rows x least most s =
 
 body_again : (rows : List Row) (a : AnswerData) (heads : List (ℕ × ℕ)) → IsAnswerText rows a heads → (rs : List Row) × (rows ≡ rs ++ done_row ∷ []) × Body rs (record { answer = a; heads = heads })
 body_again rows (reduce t s) heads is = (
-  heading_row (codes "reduce") ∷ number_row (codes "rank") t.rank ∷ is.0 ∷ is.1,
+  heading_row commands.Reduce ∷ number_row (codes "rank") t.rank ∷ is.0 ∷ is.1,
   is.2,
   headed_back commands.Reduce t.rank (is.0 ∷ is.1) (record { answer = reduce t s; heads = heads }) is.3 is.4 (record {
     x = t;
@@ -192,7 +159,7 @@ body_again rows (reduce t s) heads is = (
   }),
 )
 body_again rows (decide s t v) heads is = (
-  heading_row (codes "decide") ∷ number_row (codes "rank") s.rank ∷ is.0 ∷ is.1 ∷ verdict_row v ∷ is.2,
+  heading_row commands.Decide ∷ number_row (codes "rank") s.rank ∷ is.0 ∷ is.1 ∷ verdict_row v ∷ is.2,
   is.3,
   headed_back commands.Decide s.rank (is.0 ∷ is.1 ∷ verdict_row v ∷ is.2) (record { answer = decide s t v; heads = heads }) is.4 is.5 (record {
     x = s;

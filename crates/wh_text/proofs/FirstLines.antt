@@ -14,7 +14,7 @@ use Rattle.wh_lines.specs.Readings.{◌>>=◌, items_at, or_bad_line, refused_as
 use Rattle.wh_lines.specs.KeptLines.{Kept, Rest, rest}
 use Rattle.wh_lines.specs.KeptLines.Rest.{line, bad_byte, end}
 use Rattle.wh_lines.specs.LineReadings.{Reading, start, line_after, line_of, end_after, times}
-use Rattle.wh_lines.proofs.Equations.{bind_err}
+use Rattle.wh_lines.proofs.Equations.{bind_err, err_is}
 use Rattle.wh_lines.proofs.LocalReadings.{Agree, rest_agree, Past, Alike, went, refused, past, InLine, Local, local_none, local_then, local_by, local_head, local_line, local_times, local_end, items_err, bad_line_is}
 use Rattle.wh_fields.specs.Words.{letter_of, letter_at, letters_at, word_at}
 use Rattle.wh_fields.specs.TupleFields.{words_at, short_tuple, tuple_at}
@@ -23,18 +23,16 @@ use Rattle.wh_fields.specs.FlowFields.{flow_in}
 use Rattle.wh_text.specs.declared.command.Command.{Command}
 use Rattle.wh_text.specs.declared.command.Command.TheVariants as commands
 use Rattle.wh_text.specs.Limits.{most_answer_bytes}
+use Rattle.wh_text.specs.Commands.{command_named, is_unchecked_name, answer_version}
 use Rattle.wh_text.specs.RankLines.{greatest_rank, rank_at, rank_number, no_rank, rank_after}
 use Rattle.wh_text.specs.AnswerData.{CertificateData}
 use Rattle.wh_text.specs.AnswerData.VerdictData.{yes, no_length, no_level}
 use Rattle.wh_text.specs.AnswerData.AnswerData.{reduce, decide}
-use Rattle.wh_text.specs.Certificates.{in_answer, tuple_after, like_after, moves_after, flow_after, side_with, side_after, number_in, level_after, VerdictWord, verdict_in, sides_after, verdict_with, verdict_after, reduced_after, decided_after, answer_with, heading_in, heading_after, done_after, answer_after, certificate}
+use Rattle.wh_text.specs.Certificates.{in_answer, tuple_after, like_after, moves_after, flow_after, side_with, side_after, number_in, level_after, VerdictWord, verdict_in, sides_after, verdict_with, verdict_after, reduced_after, decided_after, answer_with, checked_command, command_at, heading_in, heading_after, done_after, answer_after, certificate}
 use Rattle.wh_text.specs.Certificates.VerdictWord.{a_yes, a_no_length, a_no_level}
 use Rattle.wh_text.specs.CertificateTexts.{IsCertificateText}
 use Rattle.wh_text.proofs.ExactLines.{tell_like, after_shape}
 use Rattle.wh_text.proofs.ExactCertificates.{body, finish, answer_split, certified, answer_back}
-
-err_is : {A : Type 0} (d e : ReadError) → ◌≡◌ {A = Result A ReadError} (Err d) (Err e) → d ≡ e
-err_is d e h = cc
 
 -- ---- tuples
 letter_err : (l c : ℕ) (o : Option ℕ) (d : ReadError) → letter_at l c o ≡ Err d → in_answer d ≡ errors.BadLine l
@@ -202,13 +200,15 @@ local_told l commands.Decide n = local_decided l n
 pub heading_in_line : (m l : ℕ) (fs : List Field) → heading_in m fs ≡ Err (errors.BadLine l) → m ≡ l
 heading_in_line m l [] e = cc
 heading_in_line m l (f ∷ []) e = cc
-heading_in_line m l (f ∷ g ∷ []) e = by (are f.bytes (codes "1")) (are g.bytes (codes "reduce")) (are g.bytes (codes "decide")) e
+heading_in_line m l (f ∷ g ∷ []) e = by (are f.bytes answer_version) e
   where
-    by : (s t u : Bool) → cond s (cond t (Ok commands.Reduce) (cond u (Ok commands.Decide) (cond (are g.bytes (codes "straighten") || (are g.bytes (codes "stabiliser") || are g.bytes (codes "gen"))) (Err (errors.NoCertificate m)) (Err (errors.BadLine m))))) (Err (errors.BadLine m)) ≡ Err (errors.BadLine l) → m ≡ l
-    by false t u e = cc
-    by true true u e = absurd (cc)
-    by true false true e = absurd (cc)
-    by true false false e = bad_unless (are g.bytes (codes "straighten") || (are g.bytes (codes "stabiliser") || are g.bytes (codes "gen"))) m l e
+    named : (found : Option Command) → checked_command m g.bytes found ≡ Err (errors.BadLine l) → m ≡ l
+    named (Some command) e = absurd (cc)
+    named None e = bad_unless (is_unchecked_name g.bytes) m l e
+
+    by : (s : Bool) → cond s (command_at m g.bytes) (Err (errors.BadLine m)) ≡ Err (errors.BadLine l) → m ≡ l
+    by false e = cc
+    by true e = named (command_named g.bytes) e
 heading_in_line m l (f ∷ g ∷ h ∷ fs) e = cc
 
 local_heading : (l : ℕ) → Local l heading_after

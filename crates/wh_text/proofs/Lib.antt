@@ -1,4 +1,5 @@
 pub mod RankLaws
+pub mod CommandNames
 pub mod ProblemTuples
 pub mod ProblemLaws
 pub mod BadByteLaws

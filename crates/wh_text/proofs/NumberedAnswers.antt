@@ -1,17 +1,16 @@
 -- A certificate that was read is numbered: its parts are of one rank, and each line and each `flow` line is counted.
-use Rattle.std.proofs.Common.{◌≡◌, ℕ, ◌+◌, ◌*◌, ◌≤◌, leb, ltb, ◌==◌, true, cond, List, [], ◌++◌, length, sym, ap, ◌∙◌, refl, subst, arith, None, Some, Result, Ok, Err, length-append}
+use Rattle.std.proofs.Common.{◌≡◌, ℕ, ◌+◌, ◌*◌, ◌≤◌, ltb, ◌==◌, cond, List, [], ◌++◌, length, sym, ap, refl, subst, arith, None, Some, Result, Ok, Err, length-append}
 use Rattle.std.specs.Prelude.{codes}
 use Rattle.std.specs.declared.option.Option.{Option}
 use Rattle.std.specs.List.{All}
 use Rattle.std.proofs.lemmas.List.{length-map}
-use Rattle.std.proofs.lemmas.Bool.Decides.{nat_tests}
 use Rattle.wh_words.specs.Tuples.{TupleData}
 use Rattle.wh_words.specs.Moves.{Move, Kind}
 use Rattle.wh_text.specs.declared.command.Command.{Command}
 use Rattle.wh_text.specs.declared.command.Command.TheVariants as commands
 use Rattle.wh_lines.specs.declared.read_error.ReadError.{ReadError}
 use Rattle.wh_lines.specs.declared.read_error.ReadError.TheVariants as errors
-use Rattle.wh_lines.specs.Lines.{Field, lines}
+use Rattle.wh_lines.specs.Lines.{Field}
 use Rattle.wh_lines.specs.Readings.{◌>>=◌, items_at, or_bad_line, refused_as}
 use Rattle.wh_fields.specs.MoveFields.{kind_in, move_with, move_at}
 use Rattle.wh_fields.specs.FlowFields.{FlowData, flow_in}
@@ -23,6 +22,7 @@ use Rattle.wh_text.specs.AnswerData.{CertificateData}
 use Rattle.wh_text.specs.AnswerData.VerdictData.{yes, no_length, no_level}
 use Rattle.wh_text.specs.AnswerData.AnswerData.{reduce, decide}
 use Rattle.wh_text.specs.Certificates.{tuple_after, like_after, moves_after, flow_after, SideRead, side_with, side_after, number_in, level_after, VerdictWord, VerdictRead, yes_after, sides_after, no_length_after, no_level_after, verdict_in, verdict_with, verdict_after, AnswerRead, reduced_after, decided_after, answer_with, heading_in, heading_after, in_answer, with_end, done_after, answer_after, certificate}
+use Rattle.wh_words.specs.Limits.{most_level_rank, most_level_tuples}
 use Rattle.wh_text.specs.Limits.{most_answer_bytes}
 use Rattle.wh_text.specs.Certificates.VerdictWord.{a_yes, a_no_length, a_no_level}
 use Rattle.wh_text.specs.Numberings.{IsSideOfRank, IsVerdictOfRank, IsAnswerOfOneRank, side_lines, verdict_lines, answer_lines, verdict_flows, flow_lines, IsNumbered}
@@ -107,8 +107,8 @@ sides_took n count p r e =
 level_took : (n count : ℕ) (p : Reading) (r : List TupleData × Reading) → level_after n count p ≡ Ok r → Took (All (λ t. t.rank ≡ n)) (1 + length r.0) p r
 unfolding level_after
 level_took n count p r e =
-    let a = bind_ok (line_after (codes "level") p) (λ k. or_bad_line k.0.number (number_in 1 131072 k.0.fields) >>= λ size. times (like_after (codes "at") n count) size k.1) r e in
-    let b = bind_ok (or_bad_line a.0.0.number (number_in 1 131072 a.0.0.fields)) (λ size. times (like_after (codes "at") n count) size a.0.1) r a.2 in
+    let a = bind_ok (line_after (codes "level") p) (λ k. or_bad_line k.0.number (number_in 1 most_level_tuples k.0.fields) >>= λ size. times (like_after (codes "at") n count) size k.1) r e in
+    let b = bind_ok (or_bad_line a.0.0.number (number_in 1 most_level_tuples a.0.0.fields)) (λ size. times (like_after (codes "at") n count) size a.0.1) r a.2 in
     let tuples = times_took (λ t. t.rank ≡ n) (like_after (codes "at") n count) (like_took (codes "at") n count) b.0 a.0.1 r b.2 in
     record { told = tuples.told.1; lines = omega (arith, line_taken (codes "level") p a.0 a.1, tuples.told.0, tuples.lines) }
 
@@ -135,7 +135,7 @@ no_length_took n count p r e =
     ok_same (TookVerdict n p) (record { verdict = no_length a.0.0.0.side a.0.0.1.side; heads = a.0.0.0.heads ++ a.0.0.1.heads }, a.0.1) r a.2
     (record { told = ((sides.told.0.0, sides.told.1.0), two_heads n a.0.0 sides.told); lines = sides.lines })
 
-no_level_took : (n count : ℕ) (p : Reading) (r : VerdictRead × Reading) → n ≤ 6 → no_level_after n count p ≡ Ok r → TookVerdict n p r
+no_level_took : (n count : ℕ) (p : Reading) (r : VerdictRead × Reading) → n ≤ most_level_rank → no_level_after n count p ≡ Ok r → TookVerdict n p r
 no_level_took n count p r small e =
     let a = bind_ok (sides_after n count p) (λ s. level_after n count s.1 >>= λ ts. Ok (record { verdict = no_level s.0.0.side s.0.1.side ts.0; heads = s.0.0.heads ++ s.0.1.heads }, ts.1)) r e in
     let b = bind_ok (level_after n count a.0.1) (λ ts. Ok (record { verdict = no_level a.0.0.0.side a.0.0.1.side ts.0; heads = a.0.0.0.heads ++ a.0.0.1.heads }, ts.1)) r a.2 in
@@ -146,12 +146,12 @@ no_level_took n count p r small e =
       lines = omega (arith, sides.lines, level.lines);
     })
 
-verdict_with_took : (n count : ℕ) (word : VerdictWord) (p : Reading) (r : VerdictRead × Reading) → n ≤ 6 → verdict_with n count word p ≡ Ok r → TookVerdict n p r
+verdict_with_took : (n count : ℕ) (word : VerdictWord) (p : Reading) (r : VerdictRead × Reading) → n ≤ most_level_rank → verdict_with n count word p ≡ Ok r → TookVerdict n p r
 verdict_with_took n count a_yes p r small e = yes_took n p r e
 verdict_with_took n count a_no_length p r small e = no_length_took n count p r e
 verdict_with_took n count a_no_level p r small e = no_level_took n count p r small e
 
-verdict_took : (n count : ℕ) (p : Reading) (r : VerdictRead × Reading) → n ≤ 6 → verdict_after n count p ≡ Ok r → Took (IsVerdictRead n) (1 + verdict_lines n r.0.verdict) p r
+verdict_took : (n count : ℕ) (p : Reading) (r : VerdictRead × Reading) → n ≤ most_level_rank → verdict_after n count p ≡ Ok r → Took (IsVerdictRead n) (1 + verdict_lines n r.0.verdict) p r
 unfolding verdict_after
 verdict_took n count p r small e =
     let a = bind_ok (line_after (codes "verdict") p) (λ k. verdict_in k.0.number k.0.fields >>= λ word. verdict_with n count word k.1) r e in
@@ -179,7 +179,7 @@ reduced_took n p r e =
       lines = omega (arith, tuple.told, tuple.lines, side.lines);
     })
 
-decided_took : (n : ℕ) (p : Reading) (r : AnswerRead × Reading) → n ≤ 6 → decided_after n p ≡ Ok r → TookAnswer p r
+decided_took : (n : ℕ) (p : Reading) (r : AnswerRead × Reading) → n ≤ most_level_rank → decided_after n p ≡ Ok r → TookAnswer p r
 unfolding decided_after
 decided_took n p r small e =
     let a = bind_ok (tuple_after (codes "first") n p) (λ s. like_after (codes "second") n (length s.0.words) s.1 >>= λ t. verdict_after n (length s.0.words) t.1 >>= λ v. Ok (record { answer = decide s.0 t.0 v.0.verdict; heads = v.0.heads }, v.1)) r e in

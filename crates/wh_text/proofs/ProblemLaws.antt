@@ -1,7 +1,6 @@
 -- A problem is read exactly from a text that states it: for the laws on whole texts.
 use Rattle.std.proofs.Common.{◌≡◌, ℕ, ◌≤◌, ltb, ◌==◌, List, [], ◌∷◌, length, map, sym, ap, ◌∙◌, refl, subst, arith, Result, Ok, Err}
 use Rattle.std.specs.Prelude.{codes, decimal}
-use Rattle.std.specs.List.{All}
 use Rattle.std.proofs.lemmas.Bool.{cond-true, cond-false, eqb-true}
 use Rattle.wh_words.specs.Tuples.{TupleData}
 use Rattle.wh_lines.specs.declared.read_error.ReadError.{ReadError}
@@ -11,7 +10,7 @@ use Rattle.wh_lines.specs.Readings.{◌>>=◌, refused_as}
 use Rattle.wh_lines.specs.KeptLines.{Kept, Rest, rest}
 use Rattle.wh_lines.specs.KeptLines.Rest.{line, bad_byte, end}
 use Rattle.wh_lines.specs.LineReadings.{Reading, start, line_after}
-use Rattle.wh_lines.specs.Laws.{IsClean, field_texts, kept_lines, texts_of}
+use Rattle.wh_lines.specs.Laws.{field_texts, kept_lines, texts_of}
 use Rattle.wh_lines.proofs.Equations.{bind_ok, ok_is, unless_ok, if_ok, not_more, is_not_more, are_is, are_back, refused_ok}
 use Rattle.wh_lines.proofs.Scanning.{eq_true}
 use Rattle.wh_lines.proofs.FieldLaws.{AreSome}

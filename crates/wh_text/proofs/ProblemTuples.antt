@@ -1,5 +1,5 @@
 -- Reading tuples line by line to the end: for the loop over the lines of a problem.
-use Rattle.std.proofs.Common.{◌≡◌, ℕ, suc, ◌<◌, List, [], ◌∷◌, ◌++◌, append-nil, sym, ap, ◌∙◌, refl, arith, subst, Result, Ok, Err}
+use Rattle.std.proofs.Common.{◌≡◌, ℕ, suc, ◌<◌, List, [], ◌∷◌, ◌++◌, append-nil, sym, ap, ◌∙◌, arith, Result, Ok, Err}
 use Rattle.wh_words.specs.Tuples.{TupleData}
 use Rattle.wh_lines.specs.declared.read_error.ReadError.{ReadError}
 use Rattle.wh_lines.specs.declared.reader.Next.TheVariants as nexts

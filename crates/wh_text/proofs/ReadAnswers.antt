@@ -1,14 +1,11 @@
 -- An answer is read back from its rows: for the law on printed answers.
-use Rattle.std.proofs.Common.{◌≡◌, ℕ, ◌+◌, ◌≤◌, ◌==◌, leb, cond, List, [], ◌∷◌, ◌++◌, length, map, sym, ap, ◌∙◌, refl, arith, Result, Ok, Err}
+use Rattle.std.proofs.Common.{◌≡◌, ℕ, ◌≤◌, ◌==◌, cond, List, [], ◌∷◌, ◌++◌, length, map, sym, ap, ◌∙◌, refl, arith, Ok, Err}
 use Rattle.std.specs.Prelude.{codes, decimal}
 use Rattle.std.specs.List.{All}
-use Rattle.std.proofs.lemmas.List.{map-append}
 use Rattle.std.proofs.lemmas.List.Elements.{All-nil, All-cons, All-append, All-push}
-use Rattle.std.proofs.lemmas.Bool.{cond-true, le-leb}
 use Rattle.wh_words.specs.Tuples.{TupleData, IsTuple}
 use Rattle.wh_text.specs.declared.command.Command.{Command}
 use Rattle.wh_text.specs.declared.command.Command.TheVariants as commands
-use Rattle.wh_lines.specs.declared.read_error.ReadError.{ReadError}
 use Rattle.wh_lines.specs.declared.read_error.ReadError.TheVariants as errors
 use Rattle.wh_lines.specs.Lines.{Field, are}
 use Rattle.wh_lines.specs.Readings.{◌>>=◌, refused_as}
@@ -28,41 +25,19 @@ use Rattle.wh_lines.proofs.PrintedRows.{IsShown, IsShownRow}
 use Rattle.wh_lines.proofs.NextLines.{behind, line_there}
 use Rattle.wh_lines.proofs.RowReadings.{ReadsRows, Passes, passes_split, reads_none, row_then, reads_then, reads_as}
 use Rattle.wh_fields.proofs.ShownFields.{written_shown, decimal_shown}
-use Rattle.wh_text.specs.AnswerTexts.{side_rows, verdict_row, verdict_rows, heading_row, done_row, rows_of}
+use Rattle.wh_text.specs.Commands.{command_name, answer_version, heading_row}
+use Rattle.wh_text.specs.AnswerTexts.{side_rows, verdict_row, verdict_rows, done_row, rows_of}
+use Rattle.wh_text.proofs.CommandNames.{heading_back, heading_shown}
 use Rattle.wh_text.proofs.ReadSides.{tuple_read, like_read, side_told, side_read}
 use Rattle.wh_text.proofs.ReadVerdicts.{verdict_read}
 
 -- ---- the heading
--- the word of a command
-abbrev command_text : Command → List ℕ
-command_text commands.Reduce = codes "reduce"
-command_text commands.Decide = codes "decide"
-
-command_is : (l : ℕ) (command : Command) → command_at l (command_text command) ≡ Ok command
-command_is l commands.Reduce = refl
-command_is l commands.Decide = refl
-
-command_shown : (command : Command) → IsShown (command_text command)
-command_shown commands.Reduce = written_shown 114 (codes "educe") refl
-command_shown commands.Decide = written_shown 100 (codes "ecide") refl
-
-heading_told : (l : ℕ) (command : Command) (fs : List Field) → map (λ f. f.bytes) fs ≡ codes "1" ∷ command_text command ∷ [] → heading_in l fs ≡ Ok command
-heading_told l command fs e =
-    let s = split_fields fs (codes "1") (command_text command ∷ []) e in
-    let t = split_fields s.1 (command_text command) [] s.4 in
-    ap (heading_in l) (s.2 ∙ ap (λ gs. s.0 ∷ gs) (t.2 ∙ ap (λ gs. t.0 ∷ gs) (no_fields t.1 t.4)))
-    ∙ ap (λ w. cond (are w (codes "1")) (command_at l t.0.bytes) (Err (errors.BadLine l))) s.3
-    ∙ ap (command_at l) t.3 ∙ command_is l command
-
-heading_read : (command : Command) → ReadsRows heading_after command (heading_row (command_text command) ∷ [])
+heading_read : (command : Command) → ReadsRows heading_after command (heading_row command ∷ [])
 unfolding heading_after
 heading_read command =
-    row_then (heading_row (command_text command)) (λ k. heading_in k.0.number k.0.fields >>= λ c. Ok (c, k.1)) command []
-    (record {
-      keyword = written_shown 119 (codes "hitehead") refl;
-      fields = All-cons IsShown (codes "1") (command_text command ∷ []) (written_shown 49 [] refl) (All-cons IsShown (command_text command) [] (command_shown command) (All-nil IsShown));
-    })
-    (λ k t. reads_none (λ p. heading_in k.number k.fields >>= λ c. Ok (c, p)) command (λ p. ap (λ r. r >>= λ c. Ok (c, p)) (heading_told k.number command k.fields t.same)))
+    row_then (heading_row command) (λ k. heading_in k.0.number k.0.fields >>= λ c. Ok (c, k.1)) command []
+    (heading_shown command)
+    (λ k t. reads_none (λ p. heading_in k.number k.fields >>= λ c. Ok (c, p)) command (λ p. ap (λ r. r >>= λ c. Ok (c, p)) (heading_back k.number command k.fields t.same)))
 
 -- ---- the rank
 rank_read : (command : Command) (n : ℕ) → 1 ≤ n → n ≤ greatest_rank command → ReadsRows (λ p. refused_as in_answer (rank_after command p)) n (number_row (codes "rank") n ∷ [])
@@ -125,12 +100,12 @@ pub record TellAnswer (told : AnswerRead) (rows : List Row) : Type 0 where
   pub read : (p q : Reading) (m : ℕ) → Passes rows p q → q.rest ≡ end m → answer_after p ≡ Ok (told, q)
 
 all_read : (command : Command) (n : ℕ) (told : AnswerRead) (rows : List Row) → 1 ≤ n → n ≤ greatest_rank command → ReadsRows (answer_with command n) told rows →
-    TellAnswer told (heading_row (command_text command) ∷ number_row (codes "rank") n ∷ rows ++ done_row ∷ [])
+    TellAnswer told (heading_row command ∷ number_row (codes "rank") n ∷ rows ++ done_row ∷ [])
 unfolding answer_after
 all_read command n told rows l m inner =
     let heading = heading_read command in
     let rank = rank_read command n l m in
-    let first = heading_row (command_text command) ∷ [] in
+    let first = heading_row command ∷ [] in
     let second = number_row (codes "rank") n ∷ [] in
     record {
       shown = All-append IsShownRow first (second ++ rows ++ done_row ∷ []) heading.shown

@@ -5,6 +5,7 @@ use Rattle.std.specs.List.{All}
 use Rattle.std.proofs.lemmas.List.Elements.{All-nil, All-cons, All-head, All-tail}
 use Rattle.std.proofs.lemmas.Bool.{cond-true}
 use Rattle.std.proofs.lemmas.Bool.Decides.{nat_tests}
+use Rattle.wh_words.specs.Limits.{most_level_tuples}
 use Rattle.wh_words.specs.Tuples.{TupleData}
 use Rattle.wh_lines.specs.declared.read_error.ReadError.{ReadError}
 use Rattle.wh_lines.specs.declared.read_error.ReadError.TheVariants as errors
@@ -54,10 +55,10 @@ tuples_read n count (t ∷ ts) h a =
     (like_read (codes "at") n count t (written_shown 97 (codes "t") refl) h (All-head (IsTupleOf n count) t ts a))
     (tuples_read n count ts h (All-tail (IsTupleOf n count) t ts a))
 
-level_read : (n count : ℕ) (ts : List TupleData) → n ≤ 26 → All (IsTupleOf n count) ts → 1 ≤ length ts → length ts ≤ 131072 → ReadsRows (level_after n count) ts (level_rows ts)
+level_read : (n count : ℕ) (ts : List TupleData) → n ≤ 26 → All (IsTupleOf n count) ts → 1 ≤ length ts → length ts ≤ most_level_tuples → ReadsRows (level_after n count) ts (level_rows ts)
 unfolding level_after
 level_read n count ts h a l m =
-    number_then (codes "level") 1 131072 (length ts) (λ q. times (like_after (codes "at") n count) q.0 q.1) ts (at_rows ts)
+    number_then (codes "level") 1 most_level_tuples (length ts) (λ q. times (like_after (codes "at") n count) q.0 q.1) ts (at_rows ts)
     (written_shown 108 (codes "evel") refl) (omega (arith, m)) l m (tuples_read n count ts h a)
 
 -- ---- verdicts

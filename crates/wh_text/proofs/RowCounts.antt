@@ -1,6 +1,5 @@
 -- How many rows an answer has: for the law that counts them.
 use Rattle.std.proofs.Common.{◌≡◌, ℕ, ◌+◌, ◌*◌, List, [], ◌∷◌, ◌++◌, length, refl, arith, length-append}
-use Rattle.std.specs.Prelude.{codes}
 use Rattle.wh_words.specs.Tuples.{TupleData}
 use Rattle.wh_fields.specs.FlowFields.{flow_rows}
 use Rattle.wh_text.specs.AnswerData.{SideData, VerdictData, AnswerData}

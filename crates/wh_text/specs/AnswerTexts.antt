@@ -5,8 +5,10 @@ use Rattle.wh_lines.specs.Rows.{Row, number_row, rows_text}
 use Rattle.wh_fields.specs.TupleFields.{words_row}
 use Rattle.wh_fields.specs.MoveFields.{moves_row}
 use Rattle.wh_fields.specs.FlowFields.{flow_rows, HaveLines}
+use Rattle.wh_text.specs.declared.command.Command.TheVariants as commands
 use Rattle.wh_text.specs.declared.answer.Bound.{Bound}
 use Rattle.wh_text.specs.declared.answer.Bound.TheVariants as bounds
+use Rattle.wh_text.specs.Commands.{heading_row}
 use Rattle.wh_text.specs.AnswerData.{SideData, VerdictData, AnswerData}
 use Rattle.wh_text.specs.AnswerData.VerdictData.{yes, no_length, no_level, undecided}
 use Rattle.wh_text.specs.AnswerData.AnswerData.{reduce, decide}
@@ -49,17 +51,14 @@ verdict_rows (no_level a b ts) = (side_rows a ++ side_rows b) ++ level_rows ts
 verdict_rows (undecided bound) = []
 
 -- ---- answers
-abbrev pub heading_row : List ℕ → Row
-heading_row word = record { keyword = codes "whitehead"; fields = codes "1" ∷ word ∷ [] }
-
 abbrev pub done_row : Row
 done_row = record { keyword = codes "done"; fields = [] }
 
 -- The rows before the sides: the heading, the rank, the tuples, and the verdict.
 abbrev pub head_rows : AnswerData → List Row
-head_rows (reduce t s) = heading_row (codes "reduce") ∷ number_row (codes "rank") t.rank ∷ words_row (codes "tuple") t.words ∷ []
+head_rows (reduce t s) = heading_row commands.Reduce ∷ number_row (codes "rank") t.rank ∷ words_row (codes "tuple") t.words ∷ []
 head_rows (decide s t v) =
-    heading_row (codes "decide") ∷ number_row (codes "rank") s.rank
+    heading_row commands.Decide ∷ number_row (codes "rank") s.rank
     ∷ words_row (codes "first") s.words ∷ words_row (codes "second") t.words ∷ verdict_row v ∷ []
 
 -- The rows between these and the last.

@@ -17,7 +17,9 @@ use Rattle.wh_text.specs.Limits.{most_answer_bytes}
 use Rattle.wh_text.specs.AnswerData.{SideData, VerdictData, AnswerData, CertificateData}
 use Rattle.wh_text.specs.AnswerData.VerdictData.{yes, no_length, no_level, undecided}
 use Rattle.wh_text.specs.AnswerData.AnswerData.{reduce, decide}
-use Rattle.wh_text.specs.AnswerTexts.{heading_row, verdict_row, done_row}
+use Rattle.wh_text.specs.declared.command.Command.TheVariants as commands
+use Rattle.wh_text.specs.Commands.{heading_row}
+use Rattle.wh_text.specs.AnswerTexts.{verdict_row, done_row}
 use Rattle.wh_text.specs.Certificates.{certificate}
 
 -- ---- lines
@@ -94,12 +96,12 @@ IsVerdictText n count rows (undecided bound) heads = ⊥
 abbrev pub IsAnswerText : List Row → AnswerData → List (ℕ × ℕ) → Type 0
 IsAnswerText rows (reduce t s) heads =
     (tuple_row : Row) × (side : List Row)
-    × (rows ≡ heading_row (codes "reduce") ∷ number_row (codes "rank") t.rank ∷ tuple_row ∷ side ++ done_row ∷ [])
+    × (rows ≡ heading_row commands.Reduce ∷ number_row (codes "rank") t.rank ∷ tuple_row ∷ side ++ done_row ∷ [])
     × (1 ≤ t.rank) × (t.rank ≤ most_rank)
     × IsTupleRow (codes "tuple") t.rank tuple_row t × IsSideText t.rank (length t.words) side s heads
 IsAnswerText rows (decide s t v) heads =
     (first_row : Row) × (second_row : Row) × (after : List Row)
-    × (rows ≡ heading_row (codes "decide") ∷ number_row (codes "rank") s.rank ∷ first_row ∷ second_row ∷ verdict_row v ∷ after ++ done_row ∷ [])
+    × (rows ≡ heading_row commands.Decide ∷ number_row (codes "rank") s.rank ∷ first_row ∷ second_row ∷ verdict_row v ∷ after ++ done_row ∷ [])
     × (1 ≤ s.rank) × (s.rank ≤ most_level_rank)
     × IsTupleRow (codes "first") s.rank first_row s × IsLikeRow (codes "second") s.rank (length s.words) second_row t
     × IsVerdictText s.rank (length s.words) after v heads

@@ -13,6 +13,7 @@ use Rattle.wh_lines.specs.Readings.{◌>>=◌, items_at, or_bad_line, refused_as
 use Rattle.wh_lines.specs.Numbers.{number}
 use Rattle.wh_fields.specs.TupleFields.{tuple_at}
 use Rattle.wh_fields.specs.FlowFields.{FlowData, flow_in}
+use Rattle.wh_text.specs.Commands.{command_named, is_unchecked_name, answer_version}
 use Rattle.wh_text.specs.RankLines.{rank_after}
 use Rattle.wh_text.specs.AnswerData.{SideData, VerdictData, AnswerData, CertificateData}
 use Rattle.wh_text.specs.AnswerData.VerdictData.{yes, no_length, no_level}
@@ -180,18 +181,19 @@ abbrev pub answer_with : Command → ℕ → Reading → Result (AnswerRead × R
 answer_with commands.Reduce n p = reduced_after n p
 answer_with commands.Decide n p = decided_after n p
 
--- The command of a heading. Other answers than those of `reduce` and `decide` are no certificates.
+-- The command of a name in line l. Answers of other commands are no certificates.
+abbrev pub checked_command : ℕ → List ℕ → Option Command → Result Command ReadError
+checked_command l name (Some command) = Ok command
+checked_command l name None = cond (is_unchecked_name name) (Err (errors.NoCertificate l)) (Err (errors.BadLine l))
+
 abbrev pub command_at : ℕ → List ℕ → Result Command ReadError
-command_at l word =
-    cond (are word (codes "reduce")) (Ok commands.Reduce)
-    (cond (are word (codes "decide")) (Ok commands.Decide)
-    (cond (are word (codes "straighten") || (are word (codes "stabiliser") || are word (codes "gen"))) (Err (errors.NoCertificate l)) (Err (errors.BadLine l))))
+command_at l name = checked_command l name (command_named name)
 
 -- The command that the fields of line l tell after the keyword `whitehead`.
 abbrev pub heading_in : ℕ → List Field → Result Command ReadError
 heading_in l [] = Err (errors.BadLine l)
 heading_in l (f ∷ []) = Err (errors.BadLine l)
-heading_in l (f ∷ g ∷ []) = cond (are f.bytes (codes "1")) (command_at l g.bytes) (Err (errors.BadLine l))
+heading_in l (f ∷ g ∷ []) = cond (are f.bytes answer_version) (command_at l g.bytes) (Err (errors.BadLine l))
 heading_in l (f ∷ g ∷ h ∷ fs) = Err (errors.BadLine l)
 
 -- The next line is a heading.

@@ -1,5 +1,6 @@
 -- What a text means, from its bytes up to problems and answers.
 pub mod Limits
+pub mod Commands
 pub mod RankLines
 pub mod Problems
 pub mod AnswerTexts

@@ -1,5 +1,5 @@
 -- Which answers are read back from their own text, and as what.
-use Rattle.std.specs.Prelude.{◌≡◌, ℕ, ◌+◌, ◌<◌, ◌≤◌, List, [], ◌++◌, length, get_or, Ok}
+use Rattle.std.specs.Prelude.{◌≡◌, ℕ, ◌<◌, ◌≤◌, List, [], ◌++◌, length, get_or, Ok}
 use Rattle.std.specs.List.{All}
 use Rattle.wh_words.specs.Limits.{most_rank, most_level_rank, most_level_tuples}
 use Rattle.wh_words.specs.Tuples.{IsTuple}

@@ -12,7 +12,7 @@ ghost use Rattle.wh_text.specs.Numberings.{IsNumbered};
 
 use crate::answer::Answer;
 use crate::answer_line::{bad_line, in_answer, like_after, tuple_after};
-use crate::command::Command;
+use crate::command::{Command, answer_version, is_unchecked_name};
 use crate::limits::MOST_ANSWER_BYTES;
 use crate::numbered::Numbered;
 use crate::rank_line::read_rank;
@@ -39,27 +39,23 @@ impl Model for ReadAnswer {
     ghost view = { λ a. record { answer = answer_of a.answer; heads = a.heads.items } };
 }
 
-/// The command of a heading. NoCertificate comes where answers of the command aren't checked, BadLine where there is none.
-fn command_at(line: u64, word: &Field) -> Result<Command, ReadError>
-    ensures { Gives (λ c. c) result (spec.command_at line word.now.bytes) }
+/// The command of the name in a heading. NoCertificate comes where answers of the command aren't checked, BadLine where there is none.
+fn command_at(line: u64, name: &Field) -> Result<Command, ReadError>
+    ensures { Gives (λ c. c) result (spec.command_at line name.now.bytes) }
 {
-    if word.is(b"reduce") {
-        Ok(Command::Reduce)
-    } else if word.is(b"decide") {
-        Ok(Command::Decide)
-    } else if word.is(b"straighten") || word.is(b"stabiliser") || word.is(b"gen") {
-        Err(ReadError::NoCertificate { line })
-    } else {
-        Err(ReadError::BadLine { line })
+    match Command::named(name.bytes()) {
+        Some(command) => Ok(command),
+        None if is_unchecked_name(name.bytes()) => Err(ReadError::NoCertificate { line }),
+        None => Err(ReadError::BadLine { line }),
     }
 }
 
-/// The command that the fields of a heading tell after `whitehead`: `1` and a command.
+/// The command that the fields of a heading tell after `whitehead`: the version and a command.
 fn read_heading(line: u64, fields: &[Field]) -> Result<Command, ReadError>
     ensures { Gives (λ c. c) result (spec.heading_in line fields.now) }
 {
     match fields {
-        [version, word] if version.is(b"1") => command_at(line, word),
+        [version, name] if version.is(answer_version()) => command_at(line, name),
         _ => Err(ReadError::BadLine { line }),
     }
 }

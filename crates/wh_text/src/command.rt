@@ -1,4 +1,6 @@
-//! Commands of the program.
+//! Commands of the program, and the headings of their answers.
+ghost use Rattle.std.specs.Prelude.{◌≡◌};
+ghost use Rattle.wh_text.specs.Commands.{command_name, command_named, answer_version, is_unchecked_name};
 
 /// What is asked for.
 #[derive(Clone, Copy, PartialEq, Eq, Debug)]
@@ -7,4 +9,45 @@ pub enum Command {
     Reduce,
     /// Whether moves carry one tuple onto another.
     Decide,
+}
+
+impl Command {
+    /// Its name, on the command line and in headings.
+    pub fn name(self) -> &'static [u8]
+        ensures { result.now ≡ command_name self }
+    {
+        match self {
+            Command::Reduce => b"reduce",
+            Command::Decide => b"decide",
+        }
+    }
+
+    /// The command of a name, where there is one.
+    pub fn named(name: &[u8]) -> Option<Command>
+        ensures { result ≡ command_named name.now }
+    {
+        if name == Command::Reduce.name() {
+            Some(Command::Reduce)
+        } else if name == Command::Decide.name() {
+            Some(Command::Decide)
+        } else {
+            None
+        }
+    }
+}
+
+/// The version of the form of answers.
+pub(crate) fn answer_version() -> &'static [u8]
+    ensures { result.now ≡ answer_version }
+{
+    b"1"
+}
+
+/// Whether a name is one of a command whose answers aren't certificates.
+pub(crate) fn is_unchecked_name(name: &[u8]) -> bool
+    ensures { result ≡ is_unchecked_name name.now }
+{
+    name == b"straighten".as_slice()
+        || name == b"stabiliser".as_slice()
+        || name == b"gen".as_slice()
 }

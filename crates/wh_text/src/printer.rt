@@ -3,9 +3,12 @@ ghost use Rattle.std.specs.Prelude.{◌≡◌, ◌∷◌, [], ◌++◌, length, 
 ghost use Rattle.wh_lines.specs.Rows.{fields_text, number_row, row_text, rows_text};
 ghost use Rattle.wh_fields.specs.TupleFields.{words_row};
 ghost use Rattle.wh_text.specs.AnswerData.{plains, side_of, verdict_of, answer_of};
-ghost use Rattle.wh_text.specs.AnswerTexts.{side_rows, at_rows, level_rows, bound_fields, heading_row, verdict_row, verdict_rows, head_rows, body_rows, answer_text, IsPrintableSide, IsPrintableVerdict, IsPrintable};
+ghost use Rattle.wh_text.specs.declared.command.Command.TheVariants as commands;
+ghost use Rattle.wh_text.specs.Commands.{heading_row};
+ghost use Rattle.wh_text.specs.AnswerTexts.{side_rows, at_rows, level_rows, bound_fields, verdict_row, verdict_rows, head_rows, body_rows, answer_text, IsPrintableSide, IsPrintableVerdict, IsPrintable};
 
 use crate::answer::{Answer, Bound, Side, Verdict};
+use crate::command::{Command, answer_version};
 use std::alloc::Global;
 use wh_fields::{print_flows, print_moves, print_words};
 use wh_lines::{print_number, print_number_row};
@@ -102,11 +105,23 @@ fn print_after_verdict(out: &mut Vec<u8>, verdict: &Verdict) -> Result<(), OutOf
     }
 }
 
+/// Writes the heading of the answers of a command.
+fn print_heading(out: &mut Vec<u8>, command: Command) -> Result<(), OutOfMemory>
+    ensures { OnOk result (out.new.items ≡ out.old.items ++ row_text (heading_row command)) }
+{
+    out.extend_from_slice(b"whitehead ")?;
+    out.extend_from_slice(answer_version())?;
+    out.push(b' ')?;
+    out.extend_from_slice(command.name())?;
+    out.push(b'\n')?;
+    Ok(())
+}
+
 /// Writes the lines of an answer of `reduce` before the side.
 fn print_reduced_head(out: &mut Vec<u8>, tuple: &Tuple) -> Result<(), OutOfMemory>
-    ensures { OnOk result (out.new.items ≡ out.old.items ++ rows_text (heading_row (codes "reduce") ∷ number_row (codes "rank") tuple.now.plain.rank ∷ words_row (codes "tuple") tuple.now.plain.words ∷ [])) }
+    ensures { OnOk result (out.new.items ≡ out.old.items ++ rows_text (heading_row commands.Reduce ∷ number_row (codes "rank") tuple.now.plain.rank ∷ words_row (codes "tuple") tuple.now.plain.words ∷ [])) }
 {
-    out.extend_from_slice(b"whitehead 1 reduce\n")?;
+    print_heading(out, Command::Reduce)?;
     print_number_row(out, b"rank", tuple.rank().get() as u64)?;
     print_words(out, b"tuple", tuple)?;
     Ok(())
@@ -119,9 +134,9 @@ fn print_decided_head(
     second: &Tuple,
     verdict: &Verdict,
 ) -> Result<(), OutOfMemory>
-    ensures { OnOk result (out.new.items ≡ out.old.items ++ rows_text (heading_row (codes "decide") ∷ number_row (codes "rank") first.now.plain.rank ∷ words_row (codes "first") first.now.plain.words ∷ words_row (codes "second") second.now.plain.words ∷ verdict_row (verdict_of verdict.now) ∷ [])) }
+    ensures { OnOk result (out.new.items ≡ out.old.items ++ rows_text (heading_row commands.Decide ∷ number_row (codes "rank") first.now.plain.rank ∷ words_row (codes "first") first.now.plain.words ∷ words_row (codes "second") second.now.plain.words ∷ verdict_row (verdict_of verdict.now) ∷ [])) }
 {
-    out.extend_from_slice(b"whitehead 1 decide\n")?;
+    print_heading(out, Command::Decide)?;
     print_number_row(out, b"rank", first.rank().get() as u64)?;
     print_words(out, b"first", first)?;
     print_words(out, b"second", second)?;

@@ -6,6 +6,7 @@ use Rattle.std.specs.Ordering.{eq_by_cmp}
 use Rattle.std.proofs.lemmas.List.{length-append, map-append, take_more, take-append-le, take_all}
 use Rattle.std.proofs.lemmas.List.Elements.{All-nil, All-push, All-append, All-weaker, Contains-append_left, Contains-append_cases}
 use Rattle.std.proofs.lemmas.Option.{slice_get_within, get_or_from_slice_get}
+use Rattle.wh_words.specs.Limits.{most_level_rank}
 use Rattle.wh_words.specs.Tuples.{TupleData, Tuple, tuple_length, tuple_cmp}
 use Rattle.wh_words.specs.Moves.{Move}
 use Rattle.wh_words.specs.Action.{act}
@@ -105,7 +106,7 @@ exploring_end root limit known rows distinct h all =
     }
 
 -- ---- what the calls of the loop ask
-pub next_rank : (root : TupleData) (limit : ℕ) (known : List TupleData) (rows : List Row) (t : TupleData) → root.rank ≤ 6 → IsExploring root limit known rows → slice_get known (length rows) ≡ Some t → t.rank ≤ 6
+pub next_rank : (root : TupleData) (limit : ℕ) (known : List TupleData) (rows : List Row) (t : TupleData) → root.rank ≤ most_level_rank → IsExploring root limit known rows → slice_get known (length rows) ≡ Some t → t.rank ≤ most_level_rank
 next_rank root limit known rows t low h e = let reached = next_known root limit known rows t h e in omega (arith, low, reached_rank reached.1)
 
 pub next_room : (root : TupleData) (limit : ℕ) (known : List TupleData) (rows : List Row) (t : TupleData) (row : Row) (scratch : Tuple) → IsExploring root limit known rows → slice_get known (length rows) ≡ Some t → row_tuple row ≡ t →

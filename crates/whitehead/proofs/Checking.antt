@@ -24,6 +24,7 @@ use Rattle.wh_answer.proofs.Readable.{answers_readable}
 use Rattle.whitehead.specs.declared.arguments.Task.{Task}
 use Rattle.whitehead.specs.declared.arguments.Task.TheVariants as tasks
 use Rattle.whitehead.specs.declared.arguments.Arguments.{Arguments}
+use Rattle.whitehead.specs.Limits.{standing_limit, most_workers, standing_workers}
 use Rattle.whitehead.specs.CommandLine.{program}
 use Rattle.whitehead.specs.Asked.{in_range, option_in, together, asked_unless, asked, task_in}
 use Rattle.whitehead.specs.CheckedTexts.{checked_text}
@@ -52,8 +53,8 @@ together_limit (Some task) (Some limit) (Some workers) a e =
 
 unless_limit : (kinds : Kinds) (rows : List Row) (a : Arguments) → asked_unless kinds rows ≡ Some a → a.limit ≤ most_level_tuples
 unless_limit [] rows a e =
-    let limit = together_limit (task_in (first_of (codes "COMMAND") rows)) (option_in 1 most_level_tuples 10000 (first_of (codes "limit") rows)) (option_in 1 64 1 (first_of (codes "workers") rows)) a e in
-    option_within 1 most_level_tuples 10000 (first_of (codes "limit") rows) a.limit (omega arith) limit
+    let limit = together_limit (task_in (first_of (codes "COMMAND") rows)) (option_in 1 most_level_tuples standing_limit (first_of (codes "limit") rows)) (option_in 1 most_workers standing_workers (first_of (codes "workers") rows)) a e in
+    option_within 1 most_level_tuples standing_limit (first_of (codes "limit") rows) a.limit (omega arith) limit
 unless_limit (k ∷ ks) rows a e = absurd (cc)
 
 asked_limit : (words : List Text) (a : Arguments) → asked words ≡ Some a → a.limit ≤ most_level_tuples

@@ -1,6 +1,7 @@
 -- The words and the bytes of a run determine what is told.
 use Rattle.std.proofs.Common.{◌≡◌, ℕ, List, refl, sym, ap, ◌∙◌, subst, Result, Ok, Err, Option, Some}
 use Rattle.wh_lines.specs.declared.read_error.ReadError.{ReadError}
+use Rattle.wh_lines.proofs.Equations.{ok_is, err_is, some_is}
 use Rattle.wh_text.specs.declared.status.Status.{Status}
 use Rattle.wh_text.specs.Problems.{ProblemData}
 use Rattle.wh_text.specs.RefusalTexts.{refusal_text}
@@ -18,15 +19,6 @@ use Rattle.whitehead.specs.Replies.Replies.{refused, answered, unread, checked}
 use Rattle.whitehead.specs.Outcome.Told.{words_refused, replied}
 use Rattle.whitehead.specs.Laws.{ToldIsUnique}
 use Rattle.whitehead.proofs.ReadProblems.{read_problem}
-
-err_is : {A : Type 0} (d e : ReadError) → ◌≡◌ {A = Result A ReadError} (Err d) (Err e) → d ≡ e
-err_is d e h = cc
-
-ok_is : (p q : ProblemData) → ◌≡◌ {A = Result ProblemData ReadError} (Ok p) (Ok q) → p ≡ q
-ok_is p q h = cc
-
-some_is : (a b : Arguments) → ◌≡◌ {A = Option Arguments} (Some a) (Some b) → a ≡ b
-some_is a b h = cc
 
 cert_is : (c d : CertificateData) → ◌≡◌ {A = Result CertificateData ReadError} (Ok c) (Ok d) → c ≡ d
 cert_is c d h = cc

@@ -2,9 +2,11 @@
 use Rattle.std.specs.Prelude.{◌≡◌, ℕ, leb, ◌&&◌, cond, List, [], ◌∷◌, Option, Some, None, Result, Ok, Err, codes}
 use Rattle.clap.specs.Words.{Row, Text, Kinds, first_of, fault_of, matches_of}
 use Rattle.wh_words.specs.Limits.{most_level_tuples}
-use Rattle.wh_text.specs.declared.command.Command.TheVariants as commands
+use Rattle.wh_text.specs.declared.command.Command.{Command}
+use Rattle.wh_text.specs.Commands.{command_named}
 use Rattle.wh_lines.specs.Numbers.{number}
 use Rattle.wh_lines.specs.Lines.{are}
+use Rattle.whitehead.specs.Limits.{standing_limit, most_workers, standing_workers}
 use Rattle.whitehead.specs.CommandLine.{program}
 use Rattle.whitehead.specs.declared.arguments.Task.{Task}
 use Rattle.whitehead.specs.declared.arguments.Task.TheVariants as tasks
@@ -12,13 +14,13 @@ use Rattle.whitehead.specs.declared.arguments.Arguments.{Arguments}
 use Rattle.whitehead.specs.declared.arguments.WordsError.{WordsError}
 use Rattle.whitehead.specs.declared.arguments.WordsError.TheVariants as errors
 
--- The task of a name.
-abbrev pub task_of : Text → Option Task
-task_of t =
-    cond (are t (codes "reduce")) (Some (tasks.Answer commands.Reduce))
-    (cond (are t (codes "decide")) (Some (tasks.Answer commands.Decide))
-    (cond (are t (codes "check")) (Some tasks.Check) None))
+-- The task of a name: to answer problems of the command that has it, or to check.
+abbrev pub task_named : Text → Option Command → Option Task
+task_named t (Some command) = Some (tasks.Answer command)
+task_named t None = cond (are t (codes "check")) (Some tasks.Check) None
 
+abbrev pub task_of : Text → Option Task
+task_of t = task_named t (command_named t)
 abbrev pub task_in : Option Text → Option Task
 task_in None = None
 task_in (Some t) = task_of t
@@ -38,9 +40,9 @@ together (Some task) None workers = None
 together (Some task) (Some limit) None = None
 together (Some task) (Some limit) (Some workers) = Some (record { task = task; limit = limit; workers = workers })
 
--- What the three texts ask. The limit is from 1 to 131,072 and stands at 10,000; there are 1 to 64 workers, and 1 where nothing is said.
+-- What the three texts ask. The limit and the number of workers are 1 at least.
 abbrev pub asked_by : Option Text → Option Text → Option Text → Option Arguments
-asked_by name limit workers = together (task_in name) (option_in 1 most_level_tuples 10000 limit) (option_in 1 64 1 workers)
+asked_by name limit workers = together (task_in name) (option_in 1 most_level_tuples standing_limit limit) (option_in 1 most_workers standing_workers workers)
 
 abbrev pub asked_unless : Kinds → List Row → Option Arguments
 asked_unless [] rows = asked_by (first_of (codes "COMMAND") rows) (first_of (codes "limit") rows) (first_of (codes "workers") rows)

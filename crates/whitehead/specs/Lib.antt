@@ -1,3 +1,4 @@
+pub mod Limits
 pub mod CommandLine
 pub mod Asked
 pub mod Streams

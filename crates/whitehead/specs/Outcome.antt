@@ -38,7 +38,7 @@ module _ (words : List Text) (left left' held held' sent' : Option (List ℕ)) w
     pub written : IsWritten held held' sent' text
     pub told : Told words bytes status text
 
-  -- The sink failed after a front of a text that would have been told.
+  -- The sink failed after a prefix of a text that would have been told.
   pub record HasToldPart : Type 0 where
     pub bytes : List ℕ
     pub text : List ℕ
@@ -48,7 +48,7 @@ module _ (words : List Text) (left left' held held' sent' : Option (List ℕ)) w
     pub written : IsPartWritten held held' text
     pub told : Told words bytes status text
 
-  -- The source failed after a front of its bytes, of one more than the task allows at most.
+  -- The source failed after a prefix of its bytes, of one more than the task allows at most.
   abbrev pub HasReadPart : Type 0
   HasReadPart = (a : Arguments) × (asked words ≡ Some a) × IsPartRead (most_input a.task) left left'
 

@@ -16,7 +16,7 @@ read_count count (Err OutOfMemory) = count
 abbrev pub IsWholeUpTo : ℕ → List ℕ → Option (List ℕ) → Type 0
 IsWholeUpTo limit bytes left = ((length bytes ≤ limit) × IsAtEnd left) ⊎ (length bytes ≡ limit + 1)
 
--- A front of the bytes is read, of one more than the limit at most.
+-- A prefix of the bytes is read, of one more than the limit at most.
 abbrev pub IsPartRead : ℕ → Option (List ℕ) → Option (List ℕ) → Type 0
 IsPartRead limit old new = (bytes : List ℕ) × (length bytes ≤ limit + 1) × Consumed old new bytes
 
@@ -24,6 +24,6 @@ IsPartRead limit old new = (bytes : List ℕ) × (length bytes ≤ limit + 1) ×
 abbrev pub IsWritten : Option (List ℕ) → Option (List ℕ) → Option (List ℕ) → List ℕ → Type 0
 IsWritten held held' sent text = Appended held held' text × IsAllSent held' sent
 
--- A front of the text is taken.
+-- A prefix of the text is taken.
 abbrev pub IsPartWritten : Option (List ℕ) → Option (List ℕ) → List ℕ → Type 0
 IsPartWritten old new text = (n : ℕ) × Appended old new (take n text)

@@ -3,6 +3,7 @@ ghost use Rattle.std.specs.Prelude.{◌≡◌, map, option_map};
 ghost use Rattle.whitehead.specs.Asked.{Tells, asked, asked_by, task_in};
 ghost use Rattle.whitehead.specs.Asked as spec;
 
+use crate::limits::{MOST_WORKERS, STANDING_LIMIT, STANDING_WORKERS};
 use crate::parsing::parsed_words;
 use clap::error::ErrorKind;
 use std::alloc::Global;
@@ -42,11 +43,11 @@ pub enum WordsError {
 fn named_task(name: Option<&str>) -> Option<Task>
     ensures { result ≡ task_in (option_map (λ t. t.now) name.entry) }
 {
-    match name? {
-        "reduce" => Some(Task::Answer(Command::Reduce)),
-        "decide" => Some(Task::Answer(Command::Decide)),
-        "check" => Some(Task::Check),
-        _ => None,
+    let name = name?;
+    match Command::named(name.as_bytes()) {
+        Some(command) => Some(Task::Answer(command)),
+        None if name == "check" => Some(Task::Check),
+        None => None,
     }
 }
 
@@ -75,8 +76,8 @@ fn arguments_of(name: Option<&str>, limit: Option<&str>, workers: Option<&str>) 
     ensures { result ≡ asked_by (option_map (λ t. t.now) name.entry) (option_map (λ t. t.now) limit.entry) (option_map (λ t. t.now) workers.entry) }
 {
     let task = named_task(name)?;
-    let limit = option_in(1, MOST_LEVEL_TUPLES, 10000, limit)?;
-    let workers = option_in(1, 64, 1, workers)?;
+    let limit = option_in(1, MOST_LEVEL_TUPLES, STANDING_LIMIT, limit)?;
+    let workers = option_in(1, MOST_WORKERS, STANDING_WORKERS, workers)?;
     Some(Arguments {
         task,
         limit,
@@ -84,10 +85,10 @@ fn arguments_of(name: Option<&str>, limit: Option<&str>, workers: Option<&str>) 
     })
 }
 
-/// What the words after the program's name ask: COMMAND, which is `reduce`, `decide` or `check`, and the options `--limit N` with
-/// N from 1 to 131,072, which stands at 10,000, and `--workers N` with N from 1 to 64, which stands at 1. `Refused` comes exactly
-/// where the parser refuses the words, the command is another word, or an option's text is no canonical number of its
-/// range.
+/// What the words after the program's name ask: COMMAND, which is the name of a `Command` or `check`, and the options
+/// `--limit N` with N from 1 to MOST_LEVEL_TUPLES, which stands at STANDING_LIMIT, and `--workers N` with N from 1 to
+/// MOST_WORKERS, which stands at STANDING_WORKERS. `Refused` comes exactly where the parser refuses the words, the command
+/// is another word, or an option's text is no canonical number of its range.
 #[tactic(auto, using(crate::proofs::Parsed::refused, crate::proofs::Parsed::asked_is))]
 pub fn read_arguments(alloc: Global, words: &[&str]) -> Result<Arguments, WordsError>
     ensures { Tells result (asked (map (λ w. w.now) words.now)) }

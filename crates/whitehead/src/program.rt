@@ -39,8 +39,8 @@ fn finish<K: Sink>(sink: &mut K, text: &[u8], status: Status) -> Status
 /// Where the source tells its bytes and the sink what it holds and sent on, the clause `ran` says for `Done`, `No`,
 /// `Refused` and `Undecided` that the sink grew by exactly the text that these words and these bytes are told, that it
 /// sent on all that it holds, and that the source was read to its end or to one byte past 1,048,576, or past 67,108,864
-/// for `check`. For `WriteFault` it grew by a front of such a text. For `ReadFault` and `OutOfMemory` the sink is as it
-/// was, and a front of the source was read. `ReadFault` comes exactly where the source failed, and `WriteFault` where the
+/// for `check`. For `WriteFault` it grew by a prefix of such a text. For `ReadFault` and `OutOfMemory` the sink is as it
+/// was, and a prefix of the source was read. `ReadFault` comes exactly where the source failed, and `WriteFault` where the
 /// sink did: each fault is counted, and ends the run. Where the words are refused nothing is read.
 pub fn run<S: Source, K: Sink>(
     alloc: Global,

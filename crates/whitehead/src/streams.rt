@@ -21,7 +21,7 @@ pub enum InputError {
 /// The bytes of a source to its end, or to one byte past the limit.
 ///
 /// `Fault` comes where the source failed, which is counted, and `OutOfMemory` where there was no memory. The source has
-/// then given a front of its bytes, of one more than the limit at most, and the others are left.
+/// then given a prefix of its bytes, of one more than the limit at most, and the others are left.
 pub fn read_all<S: Source>(
     alloc: Global,
     source: &mut S,
@@ -52,7 +52,7 @@ pub fn read_all<S: Source>(
 
 /// Writes a whole text and flushes, so that the sink sent on all that it holds.
 ///
-/// `Failed` comes where the sink failed, which is counted. It has then taken a front of the text.
+/// `Failed` comes where the sink failed, which is counted. It has then taken a prefix of the text.
 pub fn write_all<K: Sink>(sink: &mut K, text: &[u8]) -> Result<(), Failed>
     ensures whole { OnOk result (IsWritten (K.held sink.old) (K.held sink.new) (K.sent sink.new) text.now) }
     ensures part { IsPartWritten (K.held sink.old) (K.held sink.new) text.now }

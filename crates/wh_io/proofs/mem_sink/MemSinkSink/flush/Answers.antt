@@ -3,7 +3,7 @@ use Rattle.std.proofs.lemmas.Grind.{common_steps}
 use Rattle.wh_io.specs.Memory.{SinkState}
 use Rattle.wh_io.proofs.mem_sink.MemSinkSink.flush.Goals as goal
 
--- What was sent on before is a front of the bytes held, and what is sent on now is all of them.
+-- What was sent on before is a prefix of the bytes held, and what is sent on now is all of them.
 pub returns-clause-sent : goal.returns-clause-sent
 returns-clause-sent c =
     let held = c.self.inside.bytes.items in

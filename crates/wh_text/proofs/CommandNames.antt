@@ -1,0 +1,69 @@
+-- The names of commands are told apart, and headings have them: for what is read of a heading.
+use Rattle.std.proofs.Common.{◌≡◌, ℕ, Bool, true, false, cond, List, [], ◌∷◌, map, refl, ap, ◌∙◌, Option, Some, None, Ok, Err}
+use Rattle.std.specs.Prelude.{codes}
+use Rattle.std.proofs.lemmas.List.Elements.{All-nil, All-cons}
+use Rattle.wh_lines.specs.declared.read_error.ReadError.TheVariants as errors
+use Rattle.wh_lines.specs.Lines.{Field, are}
+use Rattle.wh_lines.proofs.Equations.{ok_is, are_is, if_ok}
+use Rattle.wh_lines.proofs.PrintedRows.{IsShown, IsShownRow}
+use Rattle.wh_fields.proofs.ShownFields.{written_shown}
+use Rattle.wh_text.specs.declared.command.Command.{Command}
+use Rattle.wh_text.specs.declared.command.Command.TheVariants as commands
+use Rattle.wh_text.specs.Commands.{command_name, command_named, is_unchecked_name, answer_version, heading_row}
+use Rattle.wh_text.specs.Certificates.{checked_command, command_at, heading_in}
+
+-- ---- names
+named_back : (command : Command) → command_named (command_name command) ≡ Some command
+named_back commands.Reduce = refl
+named_back commands.Decide = refl
+
+named_told : (name : List ℕ) (command : Command) → command_named name ≡ Some command → name ≡ command_name command
+named_told name command e = by (are name (command_name commands.Reduce)) (are name (command_name commands.Decide)) refl refl e
+  where
+    by : (s t : Bool) → are name (command_name commands.Reduce) ≡ s → are name (command_name commands.Decide) ≡ t →
+        cond s (Some commands.Reduce) (cond t (Some commands.Decide) None) ≡ Some command → name ≡ command_name command
+    by true t a b e = let same : commands.Reduce ≡ command = (cc) in are_is name (command_name commands.Reduce) a ∙ ap command_name same
+    by false true a b e = let same : commands.Decide ≡ command = (cc) in are_is name (command_name commands.Decide) b ∙ ap command_name same
+    by false false a b e = absurd (cc)
+
+command_back : (l : ℕ) (command : Command) → command_at l (command_name command) ≡ Ok command
+command_back l command = ap (checked_command l (command_name command)) (named_back command)
+
+command_told : (l : ℕ) (name : List ℕ) (command : Command) → command_at l name ≡ Ok command → name ≡ command_name command
+command_told l name command e = by (command_named name) refl e
+  where
+    never : (b : Bool) → cond b (Err (errors.NoCertificate l)) (Err (errors.BadLine l)) ≡ Ok command → name ≡ command_name command
+    never true e = absurd (cc)
+    never false e = absurd (cc)
+
+    by : (found : Option Command) → command_named name ≡ found → checked_command l name found ≡ Ok command → name ≡ command_name command
+    by (Some other) is e = named_told name command (is ∙ ap (λ c. Some c) (ok_is other command e))
+    by None is e = never (is_unchecked_name name) e
+
+-- ---- headings
+pub heading_told : (l : ℕ) (fs : List Field) (command : Command) → heading_in l fs ≡ Ok command → map (λ f. f.bytes) fs ≡ answer_version ∷ command_name command ∷ []
+heading_told l [] command e = absurd (cc)
+heading_told l (f ∷ []) command e = absurd (cc)
+heading_told l (f ∷ g ∷ []) command e =
+    let p = if_ok (are f.bytes answer_version) (errors.BadLine l) (command_at l g.bytes) command e in
+    ap (λ v. v ∷ g.bytes ∷ []) (are_is f.bytes answer_version p.0) ∙ ap (λ v. answer_version ∷ v ∷ []) (command_told l g.bytes command p.1)
+heading_told l (f ∷ g ∷ h ∷ fs) command e = absurd (cc)
+
+pub heading_back : (l : ℕ) (command : Command) (fs : List Field) → map (λ f. f.bytes) fs ≡ answer_version ∷ command_name command ∷ [] → heading_in l fs ≡ Ok command
+heading_back l command [] e = absurd (cc)
+heading_back l command (f ∷ []) e = absurd (cc)
+heading_back l command (f ∷ g ∷ []) e =
+    let b : f.bytes ≡ answer_version = (cc) in
+    let d : g.bytes ≡ command_name command = (cc) in
+    ap (λ v. cond (are v answer_version) (command_at l g.bytes) (Err (errors.BadLine l))) b ∙ ap (command_at l) d ∙ command_back l command
+heading_back l command (f ∷ g ∷ h ∷ fs) e = absurd (cc)
+
+name_shown : (command : Command) → IsShown (command_name command)
+name_shown commands.Reduce = written_shown 114 (codes "educe") refl
+name_shown commands.Decide = written_shown 100 (codes "ecide") refl
+
+pub heading_shown : (command : Command) → IsShownRow (heading_row command)
+heading_shown command = record {
+  keyword = written_shown 119 (codes "hitehead") refl;
+  fields = All-cons IsShown answer_version (command_name command ∷ []) (written_shown 49 [] refl) (All-cons IsShown (command_name command) [] (name_shown command) (All-nil IsShown));
+}
