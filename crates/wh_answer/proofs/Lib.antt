@@ -7,6 +7,7 @@ pub mod ValidWays
 pub mod ValidSides
 pub mod ValidLevels
 pub mod Valid
+pub mod TrueVerdicts
 pub mod Meaning
 pub mod WalkLengths
 pub mod OwnParts

@@ -1,5 +1,5 @@
 -- What a valid certificate shows, whoever wrote it.
-use Rattle.std.proofs.Common.{◌≡◌, ◌≢◌, ℕ, zero, suc, ◌+◌, ◌*◌, ◌<◌, ◌≤◌, List, [], ◌∷◌, ◌++◌, length, get_or, inl, inr, Contains, refl, subst, arith}
+use Rattle.std.proofs.Common.{◌≡◌, ◌≢◌, ℕ, zero, suc, ◌+◌, ◌*◌, ◌<◌, ◌≤◌, List, [], ◌∷◌, ◌++◌, length, get_or, inl, inr, Contains, refl, sym, subst, arith}
 use Rattle.std.specs.List.{All}
 use Rattle.std.proofs.lemmas.Bool.{cases_lt}
 use Rattle.std.proofs.lemmas.List.{length-append, get_or_append_left, get_or-append-add}
@@ -19,8 +19,10 @@ use Rattle.wh_text.specs.AnswerData.AnswerData.{reduce, decide}
 use Rattle.wh_text.specs.Numberings.{side_lines}
 use Rattle.wh_cert.specs.Demands.{Demand, Placed, fit_on_the_way, moves_carry, lengths_differ, lengths_agree, rises, has_height, is_absent, is_closed, has_root, has_flow, trace_ends, IsGeneratorFlow, ImagesAreIn, IsMet, tuple_at, asked_below, trace_asked, flow_asked, flows_asked, side_asked, sides_asked, at_asked, level_asked}
 use Rattle.wh_cert.specs.Checks.{AreMet}
-use Rattle.wh_answer.specs.Certified.{LeadsToFlatEnd}
+use Rattle.wh_peak.specs.Equivalence.{AreMovesOfRank}
+use Rattle.wh_peak.specs.Stabilisers.{LeadsToFlat}
 use Rattle.wh_answer.specs.Laws.{ValidShows}
+use Rattle.wh_answer.proofs.TrueVerdicts.{shortest_of, carried_by, none_off_level, none_of_length}
 
 -- ---- parts of what is asked
 first_part : (ds es : List Placed) → AreMet (ds ++ es) → AreMet ds
@@ -58,15 +60,16 @@ end_flat place from heads s is low met =
     let shown : IsGeneratorFlow s.end g head f = first_met (place + g) (has_flow s.end g head f) [] (met_in (flow_asked place from heads s) s.end.rank g l met) in
     (cell f, shown.flow, subst (HasValue (cell f) (2 * g)) shown.degree shown.value))
 
-side_shown : (place : ℕ) (heads : List (ℕ × ℕ)) (t : TupleData) (s : SideData) → IsTuple s.end → s.end.rank ≤ 26 → AreMet (side_asked place heads t s) → LeadsToFlatEnd t s
-side_shown place heads t s is low met =
+side_shown : (place : ℕ) (heads : List (ℕ × ℕ)) (t : TupleData) (s : SideData) → AreMovesOfRank t.rank s.trace → IsTuple s.end → s.end.rank ≤ 26 → AreMet (side_asked place heads t s) → LeadsToFlat t s.trace s.end
+side_shown place heads t s moves is low met =
     let trace : List Placed = trace_asked place t s in
     let flows : List Placed = flows_asked (place + 2) 0 heads s in
-    record { leads = trace_leads place t s (first_part trace flows met); flat = end_flat (place + 2) 0 heads s is low (rest_part trace flows met) }
+    record { of_rank = moves; leads = trace_leads place t s (first_part trace flows met); flat = end_flat (place + 2) 0 heads s is low (rest_part trace flows met) }
 
-sides_shown : (place n : ℕ) (heads : List (ℕ × ℕ)) (s t : TupleData) (a b : SideData) (lengths : TupleData → TupleData → Demand) → IsTuple a.end → IsTuple b.end → a.end.rank ≤ 26 → b.end.rank ≤ 26 → AreMet (sides_asked place n heads s t a b lengths) →
-    LeadsToFlatEnd s a × LeadsToFlatEnd t b × IsMet (lengths a.end b.end)
-sides_shown place n heads s t a b lengths is other low other_low met =
+sides_shown : (place n : ℕ) (heads : List (ℕ × ℕ)) (s t : TupleData) (a b : SideData) (lengths : TupleData → TupleData → Demand) →
+    AreMovesOfRank s.rank a.trace → AreMovesOfRank t.rank b.trace → IsTuple a.end → IsTuple b.end → a.end.rank ≤ 26 → b.end.rank ≤ 26 → AreMet (sides_asked place n heads s t a b lengths) →
+    LeadsToFlat s a.trace a.end × LeadsToFlat t b.trace b.end × IsMet (lengths a.end b.end)
+sides_shown place n heads s t a b lengths moves other_moves is other low other_low met =
     let at : ℕ = place + side_lines n in
     let ends : Demand = lengths a.end b.end in
     let side : List Placed = side_asked place heads s a in
@@ -74,8 +77,8 @@ sides_shown place n heads s t a b lengths is other low other_low met =
     let flows : List Placed = flows_asked (at + 2) n heads b in
     let second : AreMet (trace ++ ((at + 1, ends) ∷ flows)) = rest_part side (trace ++ ((at + 1, ends) ∷ flows)) met in
     let last : AreMet ((at + 1, ends) ∷ flows) = rest_part trace ((at + 1, ends) ∷ flows) second in (
-      side_shown place heads s a is low (first_part side (trace ++ ((at + 1, ends) ∷ flows)) met),
-      record { leads = trace_leads at t b (first_part trace ((at + 1, ends) ∷ flows) second); flat = end_flat (at + 2) n heads b other other_low (rest_met (at + 1) ends flows last) },
+      side_shown place heads s a moves is low (first_part side (trace ++ ((at + 1, ends) ∷ flows)) met),
+      record { of_rank = other_moves; leads = trace_leads at t b (first_part trace ((at + 1, ends) ∷ flows) second); flat = end_flat (at + 2) n heads b other other_low (rest_met (at + 1) ends flows last) },
       first_met (at + 1) ends flows last,
     )
 
@@ -110,16 +113,27 @@ module _ (place : ℕ) (root second : TupleData) (ts : List TupleData) (met : Ar
   off_level walk = All-contains (λ t. t ≢ second) ts second all_absent (stays root_in walk.1) refl
 
 -- ---- answers
+-- Moves of a rank are moves of an equal one.
+of_other_rank : (n m : ℕ) (ms : List Move) → m ≡ n → AreMovesOfRank n ms → AreMovesOfRank m ms
+of_other_rank n m ms same are = subst (λ (k : ℕ). AreMovesOfRank k ms) (sym same) are
+
 pub valid_shows : ValidShows
-valid_shows heads (reduce t s) one are met = side_shown 3 heads t s are.2 (omega (arith, one.end, are.1)) met
-valid_shows heads (decide s t (yes ms)) one are met = first_met 5 (moves_carry s ms t) [] (rest_met 5 (fit_on_the_way s ms) ((5, moves_carry s ms t) ∷ []) met)
-valid_shows heads (decide s t (no_length a b)) one are met =
-    sides_shown 5 s.rank heads s t a b lengths_differ are.3.0 are.3.1 (omega (arith, one.1.0.end, are.2)) (omega (arith, one.1.1.end, are.2)) met
-valid_shows heads (decide s t (no_level a b ts)) one are met =
+valid_shows heads (reduce t s) one are moves met =
+    let leads = side_shown 3 heads t s moves are.2 (omega (arith, one.end, are.1)) met in
+    (leads, shortest_of t s.end s.trace are.0 are.1 leads)
+valid_shows heads (decide s t (yes ms)) one are moves met =
+    carried_by s t ms are.0 moves (first_met 5 (moves_carry s ms t) [] (rest_met 5 (fit_on_the_way s ms) ((5, moves_carry s ms t) ∷ []) met))
+valid_shows heads (decide s t (no_length a b)) one are moves met =
+    let sides = sides_shown 5 s.rank heads s t a b lengths_differ moves.0 (of_other_rank s.rank t.rank b.trace one.0 moves.1)
+    are.3.0 are.3.1 (omega (arith, one.1.0.end, are.2)) (omega (arith, one.1.1.end, are.2)) met in
+    (sides.0, sides.1, sides.2, none_of_length s t a.end b.end a.trace b.trace are.0 are.1 (sym one.0) are.2 sides.0 sides.1 sides.2)
+valid_shows heads (decide s t (no_level a b ts)) one are moves met =
     let at : ℕ = 5 + 2 * side_lines s.rank in
     let sides : List Placed = sides_asked 5 s.rank heads s t a b lengths_agree in
     let level : List Placed = level_asked at a.end b.end ts in
-    let shown : LeadsToFlatEnd s a × LeadsToFlatEnd t b × (tuple_length a.end ≡ tuple_length b.end) =
-    sides_shown 5 s.rank heads s t a b lengths_agree are.3.0 are.3.1 (omega (arith, one.1.0.end, are.2)) (omega (arith, one.1.1.end, are.2)) (first_part sides level met) in
-    (shown.0, shown.1, shown.2, off_level at a.end b.end ts (rest_part sides level met))
-valid_shows heads (decide s t (undecided bound)) one are met = tt
+    let shown : LeadsToFlat s a.trace a.end × LeadsToFlat t b.trace b.end × (tuple_length a.end ≡ tuple_length b.end) =
+    sides_shown 5 s.rank heads s t a b lengths_agree moves.0 (of_other_rank s.rank t.rank b.trace one.0 moves.1)
+    are.3.0 are.3.1 (omega (arith, one.1.0.end, are.2)) (omega (arith, one.1.1.end, are.2)) (first_part sides level met) in
+    let off = off_level at a.end b.end ts (rest_part sides level met) in
+    (shown.0, shown.1, shown.2, off, none_off_level s t a.end b.end a.trace b.trace are.0 are.1 (sym one.0) are.2 shown.0 shown.1 off)
+valid_shows heads (decide s t (undecided bound)) one are moves met = tt

@@ -1,10 +1,14 @@
 -- Answers as certificates: their text can be read back, and is valid; and what valid ones show.
-use Rattle.std.specs.Prelude.{◌≡◌, ◌≢◌, ◌≤◌, length}
+use Rattle.std.specs.Prelude.{◌≡◌, ◌≢◌, ℕ, ◌≤◌, List, length}
 use Rattle.wh_words.specs.Limits.{most_rank}
 use Rattle.wh_words.specs.Tuples.{TupleData, IsTuple, tuple_length}
+use Rattle.wh_words.specs.Moves.{Move}
 use Rattle.wh_words.specs.Action.{act_all}
-use Rattle.wh_words.specs.Traces.{IsFlat}
 use Rattle.wh_words.specs.Levels.{InLevel}
+use Rattle.wh_peak.specs.Equivalence.{AreMovesOfRank}
+use Rattle.wh_peak.specs.Automorphisms.{composite}
+use Rattle.wh_peak.specs.Stabilisers.{LeadsToFlat}
+use Rattle.wh_nielsen.specs.Automorphisms.{IsAutomorphism, act_by, IsCarried}
 use Rattle.wh_text.specs.AnswerTexts.{answer_text}
 use Rattle.wh_text.specs.AnswerData.{SideData, VerdictData, AnswerData}
 use Rattle.wh_text.specs.AnswerData.VerdictData.{yes, no_length, no_level, undecided}
@@ -42,15 +46,32 @@ abbrev pub HasTuples : AnswerData → Type 0
 HasTuples (reduce t s) = IsTuple t × (t.rank ≤ most_rank) × IsTuple s.end
 HasTuples (decide s t v) = IsTuple s × IsTuple t × (s.rank ≤ most_rank) × EndsAreTuples v
 
--- The trace of a side carries a tuple to the end of the side, which no cut shortens.
-pub record LeadsToFlatEnd (t : TupleData) (s : SideData) : Type 0 where
-  pub leads : act_all t s.trace ≡ s.end
-  pub flat : IsFlat s.end
+-- The moves of a verdict, those of its sides among them, are moves of rank n.
+abbrev pub HasMovesOfRank : ℕ → VerdictData → Type 0
+HasMovesOfRank n (yes ms) = AreMovesOfRank n ms
+HasMovesOfRank n (no_length a b) = AreMovesOfRank n a.trace × AreMovesOfRank n b.trace
+HasMovesOfRank n (no_level a b ts) = AreMovesOfRank n a.trace × AreMovesOfRank n b.trace
+HasMovesOfRank n (undecided bound) = Unit {0}
 
--- What a valid answer shows: for a tuple that is to be reduced, that its trace leads to an end that no cut shortens; for a yes, that its moves carry the first tuple onto the second; and for a no, that the two traces lead to such ends, which have different lengths, or have one length where the second isn't in the level of the first.
+-- The moves of an answer are moves of its rank.
+abbrev pub HasMoves : AnswerData → Type 0
+HasMoves (reduce t s) = AreMovesOfRank t.rank s.trace
+HasMoves (decide s t v) = HasMovesOfRank s.rank v
+
+-- No automorphism takes the first tuple to one that is shorter than the second.
+abbrev pub IsShortestOf : TupleData → TupleData → Type 0
+IsShortestOf t end = (u : TupleData) → IsCarried t u → tuple_length end ≤ tuple_length u
+
+-- The moves carry the first tuple onto the second, and their composite is an automorphism that takes the one to the other.
+pub record IsCarriedBy (s t : TupleData) (ms : List Move) : Type 0 where
+  pub moves : act_all s ms ≡ t
+  pub automorphism : IsAutomorphism s.rank (composite s.rank ms)
+  pub carries : act_by (composite s.rank ms) s ≡ t
+
+-- What a valid answer shows: for a tuple that is to be reduced, that its trace leads to an end that no cut shortens, and that no automorphism takes it to a shorter tuple; for a yes, that its moves are an automorphism that takes the first tuple to the second; and for a no, that the two traces lead to ends that no cut shortens, which have different lengths, or have one length where the second isn't in the level of the first, and that no automorphism takes the first tuple to the second.
 abbrev pub Shows : AnswerData → Type 0
-Shows (reduce t s) = LeadsToFlatEnd t s
-Shows (decide s t (yes ms)) = act_all s ms ≡ t
-Shows (decide s t (no_length a b)) = LeadsToFlatEnd s a × LeadsToFlatEnd t b × (tuple_length a.end ≢ tuple_length b.end)
-Shows (decide s t (no_level a b ts)) = LeadsToFlatEnd s a × LeadsToFlatEnd t b × (tuple_length a.end ≡ tuple_length b.end) × ¬ (InLevel a.end b.end)
+Shows (reduce t s) = LeadsToFlat t s.trace s.end × IsShortestOf t s.end
+Shows (decide s t (yes ms)) = IsCarriedBy s t ms
+Shows (decide s t (no_length a b)) = LeadsToFlat s a.trace a.end × LeadsToFlat t b.trace b.end × (tuple_length a.end ≢ tuple_length b.end) × ¬ (IsCarried s t)
+Shows (decide s t (no_level a b ts)) = LeadsToFlat s a.trace a.end × LeadsToFlat t b.trace b.end × (tuple_length a.end ≡ tuple_length b.end) × ¬ (InLevel a.end b.end) × ¬ (IsCarried s t)
 Shows (decide s t (undecided bound)) = Unit {0}

@@ -12,7 +12,7 @@ use Rattle.wh_text.specs.Numberings.{IsAnswerOfOneRank}
 use Rattle.wh_cert.specs.Demands.{asked}
 use Rattle.wh_cert.specs.Checks.{AreMet}
 use Rattle.wh_answer.specs.Answers.{Answers}
-use Rattle.wh_answer.specs.Certified.{IsDecided, IsReadable, HasTuples, Shows}
+use Rattle.wh_answer.specs.Certified.{IsDecided, IsReadable, HasTuples, HasMoves, Shows}
 
 -- What is known of a problem that was read: its tuples are of a rank that its command allows, and two tuples have one rank and equally many words.
 abbrev pub IsProblem : ProblemData → Type 0
@@ -29,4 +29,4 @@ AnswersAreReadable = (limit : ℕ) (p : ProblemData) (a : Answer) → limit ≤ 
 
 -- A certificate of which all that is asked is so, whoever wrote it, shows this, whatever letters and values its `flow` lines tell.
 abbrev pub ValidShows : Type 0
-ValidShows = (heads : List (ℕ × ℕ)) (a : AnswerData) → IsAnswerOfOneRank a → HasTuples a → AreMet (asked heads a) → Shows a
+ValidShows = (heads : List (ℕ × ℕ)) (a : AnswerData) → IsAnswerOfOneRank a → HasTuples a → HasMoves a → AreMet (asked heads a) → Shows a

@@ -3,15 +3,17 @@ use Rattle.std.proofs.Common.{◌≡◌, ℕ, suc, ◌+◌, ◌*◌, ◌^◌, �
 use Rattle.std.specs.Prelude.{◌&&◌, leb, not, codes, decimal}
 use Rattle.std.specs.declared.option.Option.{Option}
 use Rattle.std.specs.Option.{option_and_then}
+use Rattle.std.specs.Int.{bit_at}
 use Rattle.std.specs.Int.Bits.{or_shifted_r}
+use Rattle.std.proofs.lemmas.Nat.Bits.{bit_at-lt}
 use Rattle.std.specs.List.{All}
 use Rattle.std.proofs.lemmas.List.Elements.{All-nil, All-cons, All-head, All-tail}
-use Rattle.std.proofs.lemmas.Bool.{cond-true, eqb-true}
+use Rattle.std.proofs.lemmas.Bool.{cond-true, eqb-true, eqb-false}
 use Rattle.std.proofs.lemmas.Bool.Decides.{nat_tests}
 use Rattle.std.proofs.lemmas.Option.{option_and_then_some}
 use Rattle.wh_words.specs.Letters.{inverse_letter}
 use Rattle.wh_words.specs.LetterSets.{in_set}
-use Rattle.wh_words.specs.Moves.{Kind}
+use Rattle.wh_words.specs.Moves.{Kind, IsKind}
 use Rattle.wh_words.specs.Moves.Kind.{swap, invert, cut}
 use Rattle.wh_lines.specs.Numbers.{number}
 use Rattle.wh_lines.proofs.NumberLaws.{reads_numbers}
@@ -161,3 +163,27 @@ move_back n f kind h (a_cut a xs within of_rank rise holds omits spelled is) =
 
 pub reads_moves : ReadsMoves
 reads_moves n f kind h = (move_is n f kind h, move_back n f kind h)
+
+-- ---- what is spelled is a kind of move
+-- letters that rise make a set of the first letters
+set_within : (m least : ℕ) (xs : List ℕ) → All (λ x. x < m) xs → RisesFrom least xs → least ≤ m → set_of xs + 2 ^ least ≤ 2 ^ m
+set_within m least [] a r h = let low : 2 ^ least ≤ 2 ^ m = pow_mono h in omega (arith, low)
+set_within m least (x ∷ xs) a r h =
+    let below : x + 1 ≤ m = omega (arith, All-head (λ x. x < m) x xs a) in
+    let rest = set_within m (x + 1) xs (All-tail (λ x. x < m) x xs a) r.1 below in
+    let plus : x + 1 ≡ suc x = omega arith in
+    let double : 2 ^ (x + 1) ≡ 2 ^ x + 2 ^ x = ap (λ k. 2 ^ k) plus ∙ pow-suc 2 x ∙ omega arith in
+    let low : 2 ^ least ≤ 2 ^ x = pow_mono r.0 in
+    omega (arith, rest, double, low)
+
+pub spelled_kind : (n : ℕ) (f : List ℕ) (kind : Kind) → IsMoveField n f kind → IsKind n kind
+spelled_kind n f kind (a_swap k some h e same) = subst (IsKind n) (sym same) (some, h)
+spelled_kind n f kind (an_inversion k some h e same) = subst (IsKind n) (sym same) (some, h)
+spelled_kind n f kind (a_cut a xs within of_rank rise holds omits e same) =
+    let not_one : bit_at (set_of xs) (inverse_letter a) ≡ 1 → ⊥ = eqb-false (bit_at (set_of xs) (inverse_letter a)) 1 omits in
+    subst (IsKind n) (sym same) (record {
+      of_rank = within;
+      within = omega (arith, set_within (2 * n) 0 xs of_rank rise (omega arith));
+      holds = eqb-true (bit_at (set_of xs) a) 1 holds;
+      omits = omega (arith, bit_at-lt (set_of xs) (inverse_letter a), not_one);
+    })

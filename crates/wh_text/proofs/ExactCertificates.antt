@@ -6,14 +6,14 @@ use Rattle.wh_words.specs.Limits.{most_rank, most_level_rank}
 use Rattle.wh_words.specs.Tuples.{TupleData}
 use Rattle.wh_lines.specs.declared.read_error.ReadError.{ReadError}
 use Rattle.wh_lines.specs.declared.read_error.ReadError.TheVariants as errors
-use Rattle.wh_lines.specs.Lines.{Field, lines, are}
+use Rattle.wh_lines.specs.Lines.{Field, lines}
 use Rattle.wh_lines.specs.Readings.{◌>>=◌, refused_as}
 use Rattle.wh_lines.specs.Rows.{Row, number_row}
 use Rattle.wh_lines.specs.Laws.{kept_numbers}
 use Rattle.wh_lines.specs.KeptLines.{Kept, rest}
 use Rattle.wh_lines.specs.KeptLines.Rest.{line, end}
 use Rattle.wh_lines.specs.LineReadings.{Reading, start, line_after, end_after, end_of}
-use Rattle.wh_lines.proofs.Equations.{bind_ok, ok_is, unless_ok, if_ok, not_more, is_not_more, are_is, refused_ok, no_fields}
+use Rattle.wh_lines.proofs.Equations.{bind_ok, ok_is, unless_ok, if_ok, not_more, is_not_more, refused_ok, no_fields}
 use Rattle.wh_lines.proofs.NextLines.{behind, line_told, line_there, end_told}
 use Rattle.wh_lines.proofs.RowReadings.{Passes, passes_split, passes_append}
 use Rattle.wh_lines.proofs.RestRows.{Holds, AllSome, holds_is, holds_back, rest_all_some, holds_passes, passes_hold, passes_one}
@@ -27,7 +27,7 @@ use Rattle.wh_text.specs.AnswerData.AnswerData.{reduce, decide}
 use Rattle.wh_text.specs.Commands.{command_name, answer_version, heading_row}
 use Rattle.wh_text.specs.AnswerTexts.{verdict_row, done_row}
 use Rattle.wh_text.proofs.CommandNames.{heading_told, heading_back}
-use Rattle.wh_text.specs.Certificates.{in_answer, AnswerRead, answer_with, command_at, heading_in, heading_after, done_after, with_end, answer_after, certificate}
+use Rattle.wh_text.specs.Certificates.{in_answer, AnswerRead, answer_with, heading_in, heading_after, done_after, with_end, answer_after, certificate}
 use Rattle.wh_text.specs.CertificateTexts.{IsTupleRow, IsLikeRow, IsSideText, IsVerdictText, IsAnswerText, IsCertificateText, ReadsCertificates}
 use Rattle.wh_text.proofs.RankLaws.{rank_within, rank_is, rank_back}
 use Rattle.wh_text.proofs.ExactLines.{same_row}

@@ -18,6 +18,7 @@ use Rattle.whitehead.specs.CheckedTexts.{checked_status}
 use Rattle.whitehead.specs.Replies.Replies.{refused, answered, unread, checked}
 use Rattle.whitehead.specs.Outcome.{Told, IsInput, HasTold, RanTo}
 use Rattle.whitehead.specs.Outcome.Told.{words_refused, replied}
+use Rattle.whitehead.proofs.Meaning.{told_is_true}
 
 -- The status of a run that writes its text.
 abbrev IsToldStatus : Status → Type 0
@@ -64,7 +65,7 @@ module _ (words : List Text) (left left' held held' sent' : Option (List ℕ)) (
   pub ran_from : (c c' : ℕ) (status : Status) (text : List ℕ) (result : Status) → Told words bytes status text → Finished held held' sent' c c' text status result → RanTo words left left' held held' sent' result
   ran_from c c' status text result told f = elim f [
     | inl h ↦ subst (RanTo words left left' held held' sent') (sym h.0)
-        (told_ran status (told_ends told) (record { bytes = bytes; text = text; read = read; whole = whole; written = h.1; told = told }))
+        (told_ran status (told_ends told) (record { bytes = bytes; text = text; read = read; whole = whole; written = h.1; told = told; so = told_is_true words bytes text status told }))
     | inr h ↦ subst (RanTo words left left' held held' sent') (sym h.0)
         (record { bytes = bytes; text = text; status = status; read = read; whole = whole; written = h.1; told = told })
   ]

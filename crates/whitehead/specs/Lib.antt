@@ -4,6 +4,7 @@ pub mod Asked
 pub mod Streams
 pub mod CheckedTexts
 pub mod Replies
+pub mod Meanings
 pub mod Outcome
 pub mod Endings
 pub mod Laws

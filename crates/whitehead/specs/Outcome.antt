@@ -12,6 +12,7 @@ use Rattle.whitehead.specs.declared.arguments.Task.TheVariants.{Answer, Check}
 use Rattle.whitehead.specs.declared.arguments.Arguments.{Arguments}
 use Rattle.whitehead.specs.Asked.{asked}
 use Rattle.whitehead.specs.Replies.{Replies}
+use Rattle.whitehead.specs.Meanings.{IsTrue}
 use Rattle.whitehead.specs.Streams.{IsWholeUpTo, IsPartRead, IsWritten, IsPartWritten}
 
 -- How many bytes the input of a task may have.
@@ -29,7 +30,7 @@ abbrev pub IsInput : List Text → List ℕ → Option (List ℕ) → Type 0
 IsInput words bytes left = ((asked words ≡ None) × (bytes ≡ [])) ⊎ ((a : Arguments) × (asked words ≡ Some a) × IsWholeUpTo (most_input a.task) bytes left)
 
 module _ (words : List Text) (left left' held held' sent' : Option (List ℕ)) where
-  -- A whole text is told, for the bytes that were read.
+  -- A whole text is told, for the bytes that were read, and what it says is so.
   pub record HasTold (status : Status) : Type 0 where
     pub bytes : List ℕ
     pub text : List ℕ
@@ -37,6 +38,7 @@ module _ (words : List Text) (left left' held held' sent' : Option (List ℕ)) w
     pub whole : IsInput words bytes left'
     pub written : IsWritten held held' sent' text
     pub told : Told words bytes status text
+    pub so : IsTrue words bytes status
 
   -- The sink failed after a prefix of a text that would have been told.
   pub record HasToldPart : Type 0 where

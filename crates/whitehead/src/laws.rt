@@ -1,5 +1,5 @@
 //! Laws of runs. Each is the contract of a function that does nothing.
-ghost use Rattle.whitehead.specs.Laws.{ToldIsUnique, AnswersAreValid, ValidIsShown};
+ghost use Rattle.whitehead.specs.Laws.{ToldIsUnique, AnswersAreValid, ToldIsTrue, ValidIsShown};
 
 /// Words and bytes determine the status and the text that are told, byte for byte: two runs that aren't stopped by a fault
 /// or want of memory write the same.
@@ -10,6 +10,12 @@ pub fn told()
 /// What a run writes for a problem that it decides or reduces is told `valid`, when another run checks it.
 pub fn answers()
     ensures { AnswersAreValid }
+{}
+
+/// Whatever a run tells is so: a yes to two tuples where some automorphism takes the first to the second, a no where none
+/// does, and `valid` where what the text says is so (Whitehead 1936; Higgins and Lyndon 1974; Nielsen 1924).
+pub fn meaning()
+    ensures { ToldIsTrue }
 {}
 
 /// Whatever text a run tells `valid` is a certificate, whoever wrote it, and shows what it says.
