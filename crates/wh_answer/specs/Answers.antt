@@ -58,7 +58,7 @@ Answers limit (reduce t) (answers.Decide first second verdict) = ⊥
 Answers limit (decide s t) (answers.Reduce tuple side) = ⊥
 Answers limit (decide s t) (answers.Decide first second verdict) = (first.plain ≡ s) × (second.plain ≡ t) × IsVerdict limit s t verdict
 
--- The problem can be answered: two tuples are of one rank, which is at most 6, and have equally many words.
+-- The problem can be answered: two tuples are of one rank, which is one of levels, and have equally many words.
 abbrev pub IsAnswerable : ProblemData → Type 0
 IsAnswerable (reduce t) = Unit {0}
 IsAnswerable (decide s t) = (s.rank ≡ t.rank) × (s.rank ≤ most_level_rank) × (length s.words ≡ length t.words)

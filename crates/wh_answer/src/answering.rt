@@ -49,12 +49,12 @@ fn decided(alloc: Global, first: &Tuple, second: &Tuple, limit: u32) -> Result<A
 /// The answer to a problem, where levels may have at most so many tuples. It can be printed.
 ///
 /// A tuple that is to be reduced is answered with its trace, the end of that, and the first flows of the end. For two
-/// tuples of one rank, at most 6, and with equally many words the verdict is the first of these cases that holds of the
-/// ends of their traces: a no where their lengths differ; a yes where they are one tuple; undecided where they have more
-/// than 256 letters; undecided where the level of the first end has more tuples than the limit; a yes where the second end
-/// is in this level; and a no with the whole level where it isn't. The moves of a yes carry the first tuple onto the second
-/// (Lyndon and Schupp, I.4). An answer that isn't undecided is a valid certificate: its lines keep all the rules that
-/// `wh_cert` judges by.
+/// tuples of one rank, at most MOST_LEVEL_RANK, and with equally many words the verdict is the first of these cases
+/// that holds of the ends of their traces: a no where their lengths differ; a yes where they are one tuple; undecided
+/// where they have more than 256 letters; undecided where the level of the first end has more tuples than the limit; a
+/// yes where the second end is in this level; and a no with the whole level where it isn't. The moves of a yes carry
+/// the first tuple onto the second (Lyndon and Schupp, I.4). An answer that isn't undecided is a valid certificate: its
+/// lines keep all the rules that `wh_cert` judges by.
 pub fn answer(alloc: Global, problem: &Problem, limit: u32) -> Result<Answer, OutOfMemory>
     requires { IsAnswerable (problem_of problem.now) }
     ensures answers { IfOk result (Answers limit (problem_of problem.now)) }

@@ -72,7 +72,7 @@ fn verdict_by(
     }
 }
 
-/// The verdict on two tuples of one rank, which is at most 6.
+/// The verdict on two tuples of one rank, which is at most MOST_LEVEL_RANK.
 pub fn decide(
     alloc: Global,
     first: &Tuple,

@@ -26,7 +26,7 @@ fn explore_over<L: Ledger>(
     explore_one(alloc, root, limit, &mut steps)
 }
 
-/// The level of a root of rank 6 at most, or that it has more tuples than the limit.
+/// The level of a root of rank MOST_LEVEL_RANK at most, or that it has more tuples than the limit.
 pub fn explore(alloc: Global, root: &Tuple, limit: u32) -> Result<Explored, OutOfMemory>
     requires { root.now.plain.rank ≤ most_level_rank }
     ensures { IfOk result (Explores root.now.plain limit) }

@@ -85,7 +85,8 @@ fn find_apart(
     }
 }
 
-/// What is found of two tuples by their traces, where the rank is at most 6 and levels may have at most so many tuples.
+/// What is found of two tuples by their traces, where the rank is at most MOST_LEVEL_RANK and levels may have at most
+/// so many tuples.
 pub(crate) fn find(
     alloc: Global,
     first: &Trace,

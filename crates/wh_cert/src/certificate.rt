@@ -85,7 +85,8 @@ fn judge_second(
     judge_flows(place + 2, tuple.rank().get() as usize, heads, side)
 }
 
-/// Judges the lines of two sides, of which the first is at a place, where `met` tells whether what is asked of the lengths of the two ends is so.
+/// Judges the lines of two sides, of which the first is at a place, where `met` tells whether what is asked of the
+/// lengths of the two ends is so.
 fn judge_sides(
     alloc: Global,
     place: usize,

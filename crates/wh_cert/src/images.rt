@@ -136,9 +136,9 @@ fn cuts_stay(
     true
 }
 
-/// Whether the images of a tuple of a list under its level moves are in the list too, where the rank is 6 at most.
-/// Swaps, inversions and cuts are tried. A cut and the cut with the complement of its set and the inverse of its
-/// multiplier have one image, so that generators are all the multipliers that are needed.
+/// Whether the images of a tuple of a list under its level moves are in the list too, where the rank is MOST_LEVEL_RANK
+/// at most. Swaps, inversions and cuts are tried. A cut and the cut with the complement of its set and the inverse of
+/// its multiplier have one image, so that generators are all the multipliers that are needed.
 pub(crate) fn images_are_in(
     alloc: Global,
     listed: &TupleSet,

@@ -70,7 +70,7 @@ fn roomy(alloc: Global, tuple: &Tuple) -> Result<Tuple, OutOfMemory>
     Tuple::with_room(alloc, tuple.rank(), MOST_WORDS, MOST_LETTERS as usize)
 }
 
-/// Judges the `at` lines of a level of rank 6 at most, of which the first is at a place.
+/// Judges the `at` lines of a level of rank MOST_LEVEL_RANK at most, of which the first is at a place.
 fn judge_tuples(
     alloc: Global,
     place: usize,
@@ -92,7 +92,7 @@ fn judge_tuples(
     Ok(())
 }
 
-/// Judges the `level` line, which is at a place, and the `at` lines of a level of rank 6 at most.
+/// Judges the `level` line, which is at a place, and the `at` lines of a level of rank MOST_LEVEL_RANK at most.
 pub(crate) fn judge_level(
     alloc: Global,
     place: usize,

@@ -88,7 +88,7 @@ fn push_cuts_with(
     Ok(())
 }
 
-/// Adds the cuts of a tuple of rank 6 at most that keep its length, by multiplier and then by set.
+/// Adds the cuts of a tuple of rank MOST_LEVEL_RANK at most that keep its length, by multiplier and then by set.
 pub(crate) fn push_cuts(
     alloc: Global,
     moves: &mut Vec<Move>,

@@ -66,8 +66,8 @@ fn own_level_moves(alloc: Global, tuple: &Tuple) -> Result<Vec<Move>, OutOfMemor
     Ok(Vec::from_slice(alloc, &moves)?)
 }
 
-/// The level moves of a tuple of rank 6 at most, in the order of moves: each move of its rank that keeps its length and
-/// is no identity cut. It takes one step. The tuple needn't be flat (Lyndon and Schupp, I.4).
+/// The level moves of a tuple of rank MOST_LEVEL_RANK at most, in the order of moves: each move of its rank that keeps
+/// its length and is no identity cut. It takes one step. The tuple needn't be flat (Lyndon and Schupp, I.4).
 pub fn level_moves<L: Ledger>(
     alloc: Global,
     tuple: &Tuple,

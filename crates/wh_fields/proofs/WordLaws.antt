@@ -70,10 +70,10 @@ first_bad_letter n l c k [] e = absurd (cc)
 first_bad_letter n l c k (b ∷ bs) e =
     elim (bind_err (letter_at l c (letter_of n b)) (λ x. letters_at n l (c + 1) bs >>= λ ys. Ok (x ∷ ys)) (errors.BadLetter l k) e) [
       | inl here ↦ (let p = letter_fault n l c k (letter_of n b) here in
-          record { front = []; bad = b; back = bs; parts = refl; place = omega (arith, p.1); letters = []; read = refl; is_bad = p.0 })
+          record { prefix = []; bad = b; suffix = bs; parts = refl; place = omega (arith, p.1); letters = []; read = refl; is_bad = p.0 })
       | inr there ↦ elim (bind_err (letters_at n l (c + 1) bs) (λ ys. Ok (there.0 ∷ ys)) (errors.BadLetter l k) there.2) [
         | inl later ↦ (let q : IsFirstBadLetter n l (c + 1) bs k = first_bad_letter n l (c + 1) k bs later in
-            record { front = b ∷ q.front; bad = q.bad; back = q.back; parts = ap (λ v. b ∷ v) q.parts; place = omega (arith, q.place); letters = there.0 ∷ q.letters; read = rw (there.1, q.read) refl; is_bad = q.is_bad })
+            record { prefix = b ∷ q.prefix; bad = q.bad; suffix = q.suffix; parts = ap (λ v. b ∷ v) q.parts; place = omega (arith, q.place); letters = there.0 ∷ q.letters; read = rw (there.1, q.read) refl; is_bad = q.is_bad })
         | inr never ↦ absurd (cc)
       ]
     ]

@@ -25,13 +25,13 @@ ReadsWords = (n l : ℕ) (f : Field) (xs : List ℕ) → n ≤ most_rank → f.b
 
 -- The column of a refusal is that of the leftmost byte that is no letter: the bytes before it are letters.
 pub record IsFirstBadLetter (n l c : ℕ) (bs : List ℕ) (column : ℕ) : Type 0 where
-  pub front : List ℕ
+  pub prefix : List ℕ
   pub bad : ℕ
-  pub back : List ℕ
-  pub parts : bs ≡ front ++ bad ∷ back
-  pub place : column ≡ c + length front
+  pub suffix : List ℕ
+  pub parts : bs ≡ prefix ++ bad ∷ suffix
+  pub place : column ≡ c + length prefix
   pub letters : List ℕ
-  pub read : letters_at n l c front ≡ Ok letters
+  pub read : letters_at n l c prefix ≡ Ok letters
   pub is_bad : letter_of n bad ≡ None
 
 -- A refusal of letters names the first one.

@@ -69,10 +69,10 @@ fn double_capacities(
     Ok(())
 }
 
-/// The capacities of all sets of letters of a network's rank, which is 6 at most: for each set, at the place that its mask
-/// says, how many edges lead out of it (Lyndon and Schupp, I.4). They are found by adding one letter after another, and
-/// none of them afresh. `OutOfMemory` comes where memory is short for the table, of 4 to the rank numbers, or for the
-/// counts of edges, of half as many.
+/// The capacities of all sets of letters of a network's rank, which is MOST_LEVEL_RANK at most: for each set, at the
+/// place that its mask says, how many edges lead out of it (Lyndon and Schupp, I.4). They are found by adding one
+/// letter after another, and none of them afresh. `OutOfMemory` comes where memory is short for the table, of 4 to the
+/// rank numbers, or for the counts of edges, of half as many.
 pub fn capacity_table(alloc: Global, net: &Net) -> Result<Vec<u32>, OutOfMemory>
     requires { net.now.rank ≤ most_level_rank }
     ensures { IfOk result (λ v. IsTable (set_capacity net.now.cells) (2 ^ (2 * net.now.rank)) v.items) }

@@ -33,7 +33,7 @@ pub record LevelData : Type 0 where
   pub tuples : List TupleData
   pub parents : Parents
 
--- The tuples are the level of the root, whose rank is at most 6, and the parents are theirs.
+-- The tuples are the level of the root, whose rank is one of levels, and the parents are theirs.
 pub record IsClosedLevel (l : LevelData) : Type 0 where
   pub rank : l.root.rank ≤ most_level_rank
   pub level : IsLevel l.root l.tuples

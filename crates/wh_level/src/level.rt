@@ -7,8 +7,8 @@ use std::marker::Model;
 use wh_moves::Move;
 use wh_words::Tuple;
 
-/// The whole level of a root, whose rank is at most 6: its tuples in the order of tuples, each once, with the tree of
-/// their first walks (Lyndon and Schupp, I.4). Contracts see the root, the tuples and their parents.
+/// The whole level of a root, whose rank is at most MOST_LEVEL_RANK: its tuples in the order of tuples, each once, with
+/// the tree of their first walks (Lyndon and Schupp, I.4). Contracts see the root, the tuples and their parents.
 #[derive(Drop)]
 pub struct Level {
     pub(crate) root: Tuple,

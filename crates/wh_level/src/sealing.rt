@@ -76,9 +76,9 @@ fn seal_placed(
     }
 }
 
-/// Whether rows are the whole level of a root of rank 6 at most, or which of its images they miss. Each row has the level
-/// moves of its tuple, which is in the level of the root. `Closed` comes exactly where the tuples of the rows are the
-/// whole level (Lyndon and Schupp, I.4).
+/// Whether rows are the whole level of a root of rank MOST_LEVEL_RANK at most, or which of its images they miss. Each
+/// row has the level moves of its tuple, which is in the level of the root. `Closed` comes exactly where the tuples of
+/// the rows are the whole level (Lyndon and Schupp, I.4).
 pub fn seal(alloc: Global, root: &Tuple, rows: &[Row]) -> Result<Sealed, OutOfMemory>
     requires rank { root.now.plain.rank ≤ most_level_rank }
     requires rows { All IsRow rows.now }

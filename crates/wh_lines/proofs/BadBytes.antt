@@ -12,22 +12,22 @@ use Rattle.wh_lines.proofs.SkippedLines.{bad_clean}
 
 -- ---- the leftmost bad byte of a line
 pub record IsLeftmost (c : ℕ) (bytes : List ℕ) (column : ℕ) : Type 0 where
-  pub front : List ℕ
+  pub prefix : List ℕ
   pub bad : ℕ
-  pub back : List ℕ
-  pub parts : bytes ≡ front ++ bad ∷ back
-  pub place : column ≡ length front + c
-  pub clean : IsClean front
+  pub suffix : List ℕ
+  pub parts : bytes ≡ prefix ++ bad ∷ suffix
+  pub place : column ≡ length prefix + c
+  pub clean : IsClean prefix
   pub is_bad : is_allowed bad ≡ false
 
 leftmost : (c column : ℕ) (bytes : List ℕ) → bad_at c bytes ≡ Some column → IsLeftmost c bytes column
 leftmost c column [] e = absurd (cc)
 leftmost c column (b ∷ bs) e = elim (cases_Bool (is_allowed b)) [
   | inl t ↦ (let r = leftmost (c + 1) column bs (sym (cond-true (is_allowed b) (bad_at (c + 1) bs) (Some c) t) ∙ e) in
-      record { front = b ∷ r.front; bad = r.bad; back = r.back; parts = ap (λ v. b ∷ v) r.parts; place = omega (arith, r.place); clean = All-cons (λ b. is_allowed b ≡ true) b r.front t r.clean; is_bad = r.is_bad })
+      record { prefix = b ∷ r.prefix; bad = r.bad; suffix = r.suffix; parts = ap (λ v. b ∷ v) r.parts; place = omega (arith, r.place); clean = All-cons (λ b. is_allowed b ≡ true) b r.prefix t r.clean; is_bad = r.is_bad })
   | inr f ↦ (let same : ◌≡◌ {A = Option ℕ} (Some c) (Some column) = sym (cond-false (is_allowed b) (bad_at (c + 1) bs) (Some c) f) ∙ e in
       let place : c ≡ column = (cc) in
-      record { front = []; bad = b; back = bs; parts = refl; place = omega (arith, place); clean = All-nil (λ b. is_allowed b ≡ true); is_bad = f })
+      record { prefix = []; bad = b; suffix = bs; parts = refl; place = omega (arith, place); clean = All-nil (λ b. is_allowed b ≡ true); is_bad = f })
 ]
 
 -- ---- the first line with a bad byte

@@ -60,7 +60,7 @@ fn explored(alloc: Global, root: &Tuple, limit: u32) -> Result<Explored, OutOfMe
     explored_over::<Brand>(alloc, root, limit, Blank::new(1))
 }
 
-/// The tuple of a problem text of rank 6 at most.
+/// The tuple of a problem text of rank MOST_LEVEL_RANK at most.
 fn low_tuple(alloc: Global, text: &str) -> Result<Tuple, Fail>
     ensures { IfOk result (λ t. t.plain.rank ≤ most_level_rank) }
 {

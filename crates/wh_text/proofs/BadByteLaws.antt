@@ -177,14 +177,14 @@ first_bad_byte command bytes l column e = by (ltb most_problem_bytes (length byt
         let r = first_bad 1 l column (lines bytes) (lines_bad command (start bytes) l column e) in
         record {
           lines_before = r.lines_before;
-          front = r.leftmost.front;
+          prefix = r.leftmost.prefix;
           bad = r.leftmost.bad;
-          back = r.leftmost.back;
+          suffix = r.leftmost.suffix;
           lines_after = r.lines_after;
           parts = r.parts ∙ ap (λ v. r.lines_before ++ v ∷ r.lines_after) r.leftmost.parts;
           line = r.place;
           place = r.leftmost.place;
           clean_before = r.clean;
-          clean_front = r.leftmost.clean;
+          clean_prefix = r.leftmost.clean;
           is_bad = r.leftmost.is_bad;
         }

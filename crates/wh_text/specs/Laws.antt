@@ -66,15 +66,15 @@ ReadsDecideTexts = (bytes : List ℕ) (s t : TupleData) → (problem commands.De
 -- Line l is the first with a byte that may not stand there, and the leftmost such byte has this column.
 pub record IsFirstBadByte (bytes : List ℕ) (l column : ℕ) : Type 0 where
   pub lines_before : List (List ℕ)
-  pub front : List ℕ
+  pub prefix : List ℕ
   pub bad : ℕ
-  pub back : List ℕ
+  pub suffix : List ℕ
   pub lines_after : List (List ℕ)
-  pub parts : lines bytes ≡ lines_before ++ (front ++ bad ∷ back) ∷ lines_after
+  pub parts : lines bytes ≡ lines_before ++ (prefix ++ bad ∷ suffix) ∷ lines_after
   pub line : l ≡ length lines_before + 1
-  pub place : column ≡ length front + 1
+  pub place : column ≡ length prefix + 1
   pub clean_before : All IsClean lines_before
-  pub clean_front : IsClean front
+  pub clean_prefix : IsClean prefix
   pub is_bad : is_allowed bad ≡ false
 
 -- A refusal of a byte names the first one.

@@ -39,7 +39,8 @@ impl Model for ReadAnswer {
     ghost view = { λ a. record { answer = answer_of a.answer; heads = a.heads.items } };
 }
 
-/// The command of the name in a heading. NoCertificate comes where answers of the command aren't checked, BadLine where there is none.
+/// The command of the name in a heading. NoCertificate comes where answers of the command aren't checked, BadLine where
+/// there is none.
 fn command_at(line: u64, name: &Field) -> Result<Command, ReadError>
     ensures { Gives (λ c. c) result (spec.command_at line name.now.bytes) }
 {
@@ -165,13 +166,13 @@ fn answer_after(alloc: Global, reader: &mut Reader) -> Result<ReadAnswer, ReadEr
     with_end(answer, reader)
 }
 
-/// The answer of `reduce` or `decide` that a text tells, whoever wrote it, with the numbers of its lines. Lines that begin
-/// with `#` or are blank are skipped, and words needn't be reduced. A refusal is the first that is met: the size of the
-/// text comes first, at most 67,108,864 bytes, and then its lines in order, where the leftmost bad byte of a line comes first.
-/// LevelRank comes at the rank line of an answer of `decide`, where the rank is 7 to 26. NoCertificate comes at the heading
-/// of another command and at an undecided verdict. BadLine comes at any other line that doesn't continue an answer, or at the
-/// place past the end. A refusal leaves nothing. The time is linear in the bytes. OutOfMemory comes where there is no memory
-/// for what is read.
+/// The answer of `reduce` or `decide` that a text tells, whoever wrote it, with the numbers of its lines. Lines that
+/// begin with `#` or are blank are skipped, and words needn't be reduced. A refusal is the first that is met: the size
+/// of the text comes first, at most 67,108,864 bytes, and then its lines in order, where the leftmost bad byte of a
+/// line comes first. LevelRank comes at the rank line of an answer of `decide`, where the rank is 7 to 26.
+/// NoCertificate comes at the heading of another command and at an undecided verdict. BadLine comes at any other line
+/// that doesn't continue an answer, or at the place past the end. A refusal leaves nothing. The time is linear in the
+/// bytes. OutOfMemory comes where there is no memory for what is read.
 #[tactic(auto, unfolding(crate::specs::Certificates::certificate))]
 pub fn read_answer(alloc: Global, bytes: &[u8]) -> Result<Numbered, ReadError>
     ensures read { IfOk result (λ n. certificate bytes.now ≡ Ok (certificate_of n)) }

@@ -64,8 +64,8 @@ fn closed(alloc: Global, root: &Tuple, rows: &[Row]) -> Result<Explored, OutOfMe
     }
 }
 
-/// Expands all tuples of the level of a root, whose rank is at most 6, each once: `known` gets the tuples, and `rows` their
-/// rows. False comes exactly where the level has more tuples than the limit.
+/// Expands all tuples of the level of a root, whose rank is at most MOST_LEVEL_RANK, each once: `known` gets the
+/// tuples, and `rows` their rows. False comes exactly where the level has more tuples than the limit.
 fn expand_known<L: Ledger>(
     alloc: Global,
     root: &Tuple,
@@ -96,8 +96,8 @@ fn expand_known<L: Ledger>(
     Ok(true)
 }
 
-/// Expands all tuples of the level of a root, whose rank is at most 6, each once: `rows` gets their rows. False comes
-/// exactly where the level has more tuples than the limit.
+/// Expands all tuples of the level of a root, whose rank is at most MOST_LEVEL_RANK, each once: `rows` gets their rows.
+/// False comes exactly where the level has more tuples than the limit.
 fn expand_all<L: Ledger>(
     alloc: Global,
     root: &Tuple,
@@ -117,9 +117,9 @@ fn expand_all<L: Ledger>(
     expand_known(alloc, root, limit, &mut known, rows, &mut scratch, steps)
 }
 
-/// The level of a root of rank 6 at most, or `Passed`, which comes exactly where it has more tuples than the limit. Each
-/// tuple is expanded once, so that a level that is answered took one step for each of its tuples; whatever is answered, it
-/// took at most as many steps as the limit says (Lyndon and Schupp, I.4).
+/// The level of a root of rank MOST_LEVEL_RANK at most, or `Passed`, which comes exactly where it has more tuples than
+/// the limit. Each tuple is expanded once, so that a level that is answered took one step for each of its tuples;
+/// whatever is answered, it took at most as many steps as the limit says (Lyndon and Schupp, I.4).
 pub fn explore_one<L: Ledger>(
     alloc: Global,
     root: &Tuple,
