@@ -68,17 +68,23 @@ fn have_same_images(alloc: Global, one: &Move, other: &Move) -> Result<bool, Fai
     has_images(alloc, other, &made)
 }
 
+/// Whether texts spell the images of a cut, whether these are the generators, and whether two moves have the same images.
+fn cut_images(alloc: Global, cut: &Move, swap: &Move) -> Result<[bool; 4], Fail> {
+    Ok([
+        images_are(alloc, cut, &["a", "Ab", "ca"])?,
+        images_stay(alloc, cut)?,
+        have_same_images(alloc, cut, swap)?,
+        have_same_images(alloc, cut, cut)?,
+    ])
+}
+
 #[test]
 fn images_are_those_of_the_generators(rt: HostRuntime) -> Result<(), Fail> {
-    let alloc = rt.alloc();
-    let rank = rank(3);
     // a: a, B and c are in the set, so b goes to Ab and c to ca.
-    let cut = cut(rank, b'a', 1 + 8 + 16)?;
-    assert!(rt; images_are(alloc, &cut, &["a", "Ab", "ca"])?);
-    assert!(rt; !images_stay(alloc, &cut)?);
-    let swap = Move::swap(rank, 1).ok_or("swap")?;
-    assert!(rt; !have_same_images(alloc, &cut, &swap)?);
-    assert!(rt; have_same_images(alloc, &cut, &cut)?);
+    let cut = cut(rank(3), b'a', 1 + 8 + 16)?;
+    let swap = Move::swap(rank(3), 1).ok_or("swap")?;
+    let seen = cut_images(rt.alloc(), &cut, &swap)?;
+    assert_eq!(rt; seen, [true, false, false, true]);
     Ok(())
 }
 
@@ -188,19 +194,29 @@ fn cut_gives(alloc: Global, mult: u8, set: u64, words: &[&str]) -> Result<bool, 
     gives(alloc, &tuple, &cut, words)
 }
 
+/// Whether cuts, told by multiplier and set, make these words of them.
+fn cuts_give(alloc: Global, cases: &[(u8, u64, [&str; 8])]) -> Result<bool, Fail> {
+    for (mult, set, words) in cases {
+        if !cut_gives(alloc, *mult, *set, words)? {
+            return Ok(false);
+        }
+    }
+    Ok(true)
+}
+
 #[test]
 fn cuts_act_on_degenerate_words(rt: HostRuntime) -> Result<(), Fail> {
-    let alloc = rt.alloc();
-    // The identity cut, and conjugation.
     let same = ["", "a", "A", "aaa", "b", "aB", "aab", "bc"];
-    assert!(rt; cut_gives(alloc, b'a', 1, &same)?);
-    assert!(rt; cut_gives(alloc, b'a', 61, &same)?);
-    // b and c are multiplied by a; then b is conjugated by itself; then B is multiplied by A.
-    let both = ["", "a", "A", "aaa", "ab", "B", "aaab", "abac"];
-    assert!(rt; cut_gives(alloc, b'a', 21, &both)?);
-    assert!(rt; cut_gives(alloc, b'b', 7, &same)?);
-    let one = ["", "a", "A", "aaa", "ab", "B", "aaab", "abc"];
-    assert!(rt; cut_gives(alloc, b'A', 10, &one)?);
+    let cases = [
+        // The identity cut, and conjugation.
+        (b'a', 1, same),
+        (b'a', 61, same),
+        // b and c are multiplied by a; then b is conjugated by itself; then B is multiplied by A.
+        (b'a', 21, ["", "a", "A", "aaa", "ab", "B", "aaab", "abac"]),
+        (b'b', 7, same),
+        (b'A', 10, ["", "a", "A", "aaa", "ab", "B", "aaab", "abc"]),
+    ];
+    assert!(rt; cuts_give(rt.alloc(), &cases)?);
     Ok(())
 }
 

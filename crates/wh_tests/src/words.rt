@@ -10,15 +10,26 @@ fn reduces_to(alloc: Global, text: &str, reduced: &str) -> Result<bool, Fail> {
     Ok(are_spelled(word.letters(), reduced))
 }
 
+/// Whether texts have these free reductions.
+fn reduce_to(alloc: Global, cases: &[(&str, &str)]) -> Result<bool, Fail> {
+    for (text, reduced) in cases {
+        if !reduces_to(alloc, text, reduced)? {
+            return Ok(false);
+        }
+    }
+    Ok(true)
+}
+
 #[test]
 fn words_are_reduced(rt: HostRuntime) -> Result<(), Fail> {
-    let alloc = rt.alloc();
-    assert!(rt; reduces_to(alloc, "", "")?);
-    assert!(rt; reduces_to(alloc, "aA", "")?);
-    assert!(rt; reduces_to(alloc, "abBAc", "c")?);
-    assert!(rt; reduces_to(alloc, "abBAaabAB", "aabAB")?);
-    let long = "aaaaaaaaaaaaaaaaaaaaaaaa";
-    assert!(rt; reduces_to(alloc, long, long)?);
+    let cases = [
+        ("", ""),
+        ("aA", ""),
+        ("abBAc", "c"),
+        ("abBAaabAB", "aabAB"),
+        ("aaaaaaaaaaaaaaaaaaaaaaaa", "aaaaaaaaaaaaaaaaaaaaaaaa"),
+    ];
+    assert!(rt; reduce_to(rt.alloc(), &cases)?);
     Ok(())
 }
 
@@ -29,15 +40,27 @@ fn is_cyclically(alloc: Global, text: &str, cyclic: &str) -> Result<bool, Fail> 
     Ok(are_spelled(made.letters(), cyclic))
 }
 
+/// Whether texts have these cyclic words.
+fn are_cyclically(alloc: Global, cases: &[(&str, &str)]) -> Result<bool, Fail> {
+    for (text, cyclic) in cases {
+        if !is_cyclically(alloc, text, cyclic)? {
+            return Ok(false);
+        }
+    }
+    Ok(true)
+}
+
 #[test]
 fn cyclic_words_are_the_first_rotations(rt: HostRuntime) -> Result<(), Fail> {
-    let alloc = rt.alloc();
-    assert!(rt; is_cyclically(alloc, "", "")?);
-    assert!(rt; is_cyclically(alloc, "bAB", "A")?);
-    assert!(rt; is_cyclically(alloc, "BabAb", "b")?);
-    assert!(rt; is_cyclically(alloc, "BAba", "aBAb")?);
-    assert!(rt; is_cyclically(alloc, "baba", "abab")?);
-    assert!(rt; is_cyclically(alloc, "aaCBcAcACb", "aaCBcAcACb")?);
+    let cases = [
+        ("", ""),
+        ("bAB", "A"),
+        ("BabAb", "b"),
+        ("BAba", "aBAb"),
+        ("baba", "abab"),
+        ("aaCBcAcACb", "aaCBcAcACb"),
+    ];
+    assert!(rt; are_cyclically(rt.alloc(), &cases)?);
     Ok(())
 }
 
@@ -48,14 +71,20 @@ fn comes_before(alloc: Global, less: &str, more: &str) -> Result<bool, Fail> {
     Ok(less < more)
 }
 
+/// Whether the first word of each pair comes before the second.
+fn come_before(alloc: Global, cases: &[(&str, &str)]) -> Result<bool, Fail> {
+    for (less, more) in cases {
+        if !comes_before(alloc, less, more)? {
+            return Ok(false);
+        }
+    }
+    Ok(true)
+}
+
 #[test]
 fn words_are_ordered_letter_by_letter(rt: HostRuntime) -> Result<(), Fail> {
-    let alloc = rt.alloc();
-    assert!(rt; comes_before(alloc, "a", "A")?);
-    assert!(rt; comes_before(alloc, "A", "b")?);
-    assert!(rt; comes_before(alloc, "a", "ab")?);
-    assert!(rt; comes_before(alloc, "", "a")?);
-    assert!(rt; comes_before(alloc, "aB", "bA")?);
+    let cases = [("a", "A"), ("A", "b"), ("a", "ab"), ("", "a"), ("aB", "bA")];
+    assert!(rt; come_before(rt.alloc(), &cases)?);
     Ok(())
 }
 
@@ -99,14 +128,27 @@ fn is_equal(alloc: Global, other: &str) -> Result<(bool, bool), Fail> {
     equals(alloc, &one, other)
 }
 
+/// Whether a tuple of rank 3 equals those of problem texts just where this is told.
+fn are_equal(alloc: Global, cases: &[(&str, bool)]) -> Result<bool, Fail> {
+    for (other, equal) in cases {
+        let (by_operator, by_call) = is_equal(alloc, other)?;
+        if by_operator != *equal || by_call != *equal {
+            return Ok(false);
+        }
+    }
+    Ok(true)
+}
+
 #[test]
 fn tuples_are_compared_by_their_words(rt: HostRuntime) -> Result<(), Fail> {
-    let alloc = rt.alloc();
-    assert_eq!(rt; is_equal(alloc, "rank 3\ntuple ba c\n")?, (true, true));
-    assert_eq!(rt; is_equal(alloc, "rank 3\ntuple c ab\n")?, (false, false));
-    assert_eq!(rt; is_equal(alloc, "rank 3\ntuple a bc\n")?, (false, false));
-    assert_eq!(rt; is_equal(alloc, "rank 3\ntuple ab\n")?, (false, false));
-    assert_eq!(rt; is_equal(alloc, "rank 4\ntuple ab c\n")?, (false, false));
+    let cases = [
+        ("rank 3\ntuple ba c\n", true),
+        ("rank 3\ntuple c ab\n", false),
+        ("rank 3\ntuple a bc\n", false),
+        ("rank 3\ntuple ab\n", false),
+        ("rank 4\ntuple ab c\n", false),
+    ];
+    assert!(rt; are_equal(rt.alloc(), &cases)?);
     Ok(())
 }
 
