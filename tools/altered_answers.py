@@ -380,6 +380,18 @@ verdict yes
 moves 0
 done
 """
+# Moves that carry a onto a, and not onto b. Lines that are skipped are counted.
+SKIPPED_LINES = """# moves that carry a onto a
+
+whitehead 1 decide
+rank 2
+first a
+second b
+verdict yes
+
+moves i1 i1
+done
+"""
 OTHER_TEXTS = [
     (STABILISER, "refused no-certificate line 1"),
     (GEN, "refused no-certificate line 1"),
@@ -391,6 +403,8 @@ OTHER_TEXTS = [
     ("whitehead 1 reduce", "refused bad-line line 2"),
     ("whitehead 1 reduce\n\n", "refused bad-line line 3"),
     ("whitehead 1 gen", "refused no-certificate line 1"),
+    ("whitehead 1 decide\nrank 2\n", "refused bad-line line 3"),
+    (SKIPPED_LINES, "invalid line 9 moves"),
     ("rank 2\ntuple ab\n", "refused bad-line line 1"),
     ("refused words\n", "refused bad-line line 1"),
     (TORUS + PRIMITIVE, "refused bad-line line 9"),

@@ -4,9 +4,8 @@ ghost use Rattle.std.specs.Prelude.{None};
 use crate::support::source;
 use std::alloc::Global;
 use std::io::{self, ErrorKind, Read, Write};
-use std::process::Abort;
 use std::test::Fail;
-use wh_io::{Failed, MemSink, Sink, Source, StdSink, StdSource};
+use wh_io::{Failed, MemSink, MemSource, Sink, Source, StdSink, StdSource};
 use wh_text::Status;
 use whitehead::run;
 
@@ -42,15 +41,17 @@ impl Sink for Unflushable {
     }
 }
 
+/// The status of a run over the problem, and how often its sink failed.
+fn written<K: Sink>(alloc: Global, sink: &mut K) -> Result<(Status, u64), Fail> {
+    let mut source = source(alloc, PROBLEM, 4096, &[])?;
+    let status = run(alloc, &["reduce"], &mut source, sink);
+    Ok((status, sink.faults()))
+}
+
 #[test]
 fn a_flush_that_fails_is_a_write_fault(rt: HostRuntime) -> Result<(), Fail> {
-    let mut source = source(rt.alloc(), PROBLEM)?;
     let mut sink = Unflushable { faults: 0 };
-    assert_eq!(rt;
-        run(rt.alloc(), &["reduce"], &mut source, &mut sink),
-        Status::WriteFault
-    );
-    assert_eq!(rt; sink.faults(), 1);
+    assert_eq!(rt; written(rt.alloc(), &mut sink)?, (Status::WriteFault, 1));
     Ok(())
 }
 
@@ -70,13 +71,8 @@ impl Write for UnflushableWriter {
 
 #[test]
 fn a_writer_whose_flush_fails_is_a_write_fault(rt: HostRuntime) -> Result<(), Fail> {
-    let mut source = source(rt.alloc(), PROBLEM)?;
     let mut sink = StdSink::new(UnflushableWriter);
-    assert_eq!(rt;
-        run(rt.alloc(), &["reduce"], &mut source, &mut sink),
-        Status::WriteFault
-    );
-    assert_eq!(rt; sink.faults(), 1);
+    assert_eq!(rt; written(rt.alloc(), &mut sink)?, (Status::WriteFault, 1));
     Ok(())
 }
 
@@ -105,67 +101,74 @@ impl<'a> Read for BrokenReader<'a> {
     }
 }
 
-/// Asserts how a run over such a reader ends, and how often it failed.
-fn ends_over_reader(
-    rt: &impl Abort,
-    alloc: Global,
-    broken: Option<usize>,
-    status: Status,
-    faults: u64,
-) {
+/// The status of a run over such a reader, how often that failed, and whether nothing was sent.
+fn read(alloc: Global, broken: Option<usize>) -> (Status, u64, bool) {
     let mut source = StdSource::new(BrokenReader {
         text: PROBLEM,
         at: 0,
         broken,
     });
     let mut sink = MemSink::new(alloc, 4096, Vec::new(alloc));
-    assert_eq!(rt; run(alloc, &["reduce"], &mut source, &mut sink), status);
-    assert_eq!(rt; source.faults(), faults);
-    assert_eq!(rt; sink.sent().is_empty(), status == Status::ReadFault);
+    let status = run(alloc, &["reduce"], &mut source, &mut sink);
+    (status, source.faults(), sink.sent().is_empty())
 }
 
 #[test]
 fn a_reader_that_fails_in_mid_stream_is_a_read_fault(rt: HostRuntime) {
-    ends_over_reader(&rt, rt.alloc(), Some(10), Status::ReadFault, 1);
-    ends_over_reader(&rt, rt.alloc(), Some(16), Status::ReadFault, 1);
-    ends_over_reader(&rt, rt.alloc(), None, Status::Done, 0);
+    let alloc = rt.alloc();
+    let seen = [
+        read(alloc, Some(10)),
+        read(alloc, Some(16)),
+        read(alloc, None),
+    ];
+    let fault = (Status::ReadFault, 1, true);
+    assert_eq!(rt; seen, [fault, fault, (Status::Done, 0, false)]);
 }
 
-/// Asserts what is told of a text with a comment behind it that makes it so many bytes long.
-fn is_told(
-    rt: &impl Abort,
-    alloc: Global,
-    word: &str,
-    text: &[u8],
-    length: usize,
-    told: &[u8],
-) -> Result<(), Fail> {
+/// A text with a comment behind it that makes it so many bytes long.
+fn padded(alloc: Global, text: &[u8], length: usize) -> Result<Vec<u8>, Fail> {
     let mut bytes = Vec::from_slice(alloc, text)?;
     bytes.resize(length, b'#')?;
-    let mut source = source(alloc, &bytes)?;
-    drop(bytes);
+    Ok(bytes)
+}
+
+/// Whether a run over an input sends just this text.
+fn sends(alloc: Global, word: &str, input: Vec<u8>, text: &[u8]) -> bool {
+    let mut source = MemSource::new(input, 4096, Vec::new(alloc));
     let mut sink = MemSink::new(alloc, 4096, Vec::new(alloc));
     run(alloc, &[word], &mut source, &mut sink);
-    assert_eq!(rt; sink.sent(), told);
-    Ok(())
+    sink.sent() == text
+}
+
+/// Whether just this is told of the problem with a comment behind it that makes it so many bytes long.
+fn problem_is_told(alloc: Global, length: usize, told: &[u8]) -> Result<bool, Fail> {
+    Ok(sends(alloc, "reduce", padded(alloc, PROBLEM, length)?, told))
+}
+
+/// The same for the answer, which is checked.
+fn answer_is_told(alloc: Global, length: usize, told: &[u8]) -> Result<bool, Fail> {
+    Ok(sends(alloc, "check", padded(alloc, ANSWER, length)?, told))
 }
 
 #[test]
 fn a_problem_may_have_so_many_bytes(rt: HostRuntime) -> Result<(), Fail> {
     let alloc = rt.alloc();
-    is_told(&rt, alloc, "reduce", PROBLEM, 70_000, ANSWER)?;
-    is_told(&rt, alloc, "reduce", PROBLEM, 1_048_576, ANSWER)?;
+    assert!(rt; problem_is_told(alloc, 70_000, ANSWER)?);
+    assert!(rt; problem_is_told(alloc, 1_048_576, ANSWER)?);
     let refusal = b"refused input-too-long 1048576\n";
-    is_told(&rt, alloc, "reduce", PROBLEM, 1_048_577, refusal)
+    assert!(rt; problem_is_told(alloc, 1_048_577, refusal)?);
+    Ok(())
 }
 
 #[test]
 fn a_certificate_may_have_so_many_bytes(rt: HostRuntime) -> Result<(), Fail> {
-    is_told(&rt, rt.alloc(), "check", ANSWER, 67_108_864, b"valid\n")
+    assert!(rt; answer_is_told(rt.alloc(), 67_108_864, b"valid\n")?);
+    Ok(())
 }
 
 #[test]
 fn a_longer_certificate_is_refused(rt: HostRuntime) -> Result<(), Fail> {
     let refusal = b"refused input-too-long 67108864\n";
-    is_told(&rt, rt.alloc(), "check", ANSWER, 67_108_865, refusal)
+    assert!(rt; answer_is_told(rt.alloc(), 67_108_865, refusal)?);
+    Ok(())
 }

@@ -1,76 +1,146 @@
 //! The Whitehead graph, its capacities and flows.
-use crate::support::{is_spelled, letter, tuple};
+ghost use Rattle.std.specs.Prelude.{IfOk};
+ghost use Rattle.wh_words.specs.CapacityTraces.{IsFlatByCapacities};
+
+use crate::support::{are_spelled, cut, letter, tuple};
+use std::alloc::Global;
 use std::test::Fail;
-use wh_flow::{Flow, check_flow, least_cut, least_flow, max_flow_uncounted, reach};
+use wh_flow::{Flow, Net, check_flow, least_cut, least_flow, max_flow_uncounted, reach};
 use wh_graph::{cap, deg, graph, new_length};
-use wh_moves::Move;
-use wh_reduce::{flows, reduce, shorten};
-use wh_words::LetterSet;
+use wh_reduce::{Trace, flows, reduce, shorten};
+use wh_words::{Letter, LetterSet, Tuple};
+
+/// The capacity of the set of a cut by a, the degree of a, the length after the cut, and whether it is the step of a tuple.
+fn cut_seen(tuple: &Tuple) -> Result<(u32, u32, u32, bool), Fail> {
+    let net = graph(tuple);
+    let cut = cut(tuple.rank(), b'a', 9)?;
+    let capacity = cap(&net, LetterSet::of_bits(9));
+    let degree = deg(&net, letter(b'a')?);
+    Ok((
+        capacity,
+        degree,
+        new_length(tuple, &cut),
+        shorten(tuple) == Some(cut),
+    ))
+}
+
+/// The same for the tuple of the one word ab.
+fn ab_cut(alloc: Global) -> Result<(u32, u32, u32, bool), Fail> {
+    let tuple = tuple(alloc, "rank 2\ntuple ab\n")?;
+    cut_seen(&tuple)
+}
 
 #[test]
 fn a_cut_changes_the_length_by_capacity_less_degree(rt: HostRuntime) -> Result<(), Fail> {
-    let tuple = tuple(rt.alloc(), "rank 2\ntuple ab\n")?;
-    let a = letter(b'a')?;
-    let set = LetterSet::of_bits(9);
-    let net = graph(&tuple);
-    assert_eq!(rt; cap(&net, set), 0);
-    assert_eq!(rt; deg(&net, a), 1);
-    let cut = Move::cut(tuple.rank(), a, set).ok_or("cut")?;
-    assert_eq!(rt; cut.rank(), tuple.rank());
-    assert_eq!(rt; new_length(&tuple, &cut), 1);
-    assert_eq!(rt; shorten(&tuple), Some(cut));
+    assert_eq!(rt; ab_cut(rt.alloc())?, (0, 1, 1, true));
     Ok(())
+}
+
+/// The graph of the tuple of a problem text.
+fn graph_of(alloc: Global, text: &str) -> Result<Net, Fail> {
+    let tuple = tuple(alloc, text)?;
+    Ok(graph(&tuple))
+}
+
+/// Three capacities between the letters of rank 2, and the degree of b.
+fn square_seen(net: &Net, a: Letter, b: Letter) -> [u32; 4] {
+    [
+        net.cap_of(a, b),
+        net.cap_of(b.inverse(), a),
+        net.cap_of(a, a.inverse()),
+        deg(net, b),
+    ]
 }
 
 #[test]
 fn the_graph_of_a_commutator_is_a_square(rt: HostRuntime) -> Result<(), Fail> {
-    let net = graph(&tuple(rt.alloc(), "rank 2\ntuple abAB\n")?);
-    let a = letter(b'a')?;
-    let b = letter(b'b')?;
-    assert_eq!(rt; net.cap_of(a, b), 1);
-    assert_eq!(rt; net.cap_of(b.inverse(), a), 1);
-    assert_eq!(rt; net.cap_of(a, a.inverse()), 0);
-    assert_eq!(rt; deg(&net, b), 2);
+    let net = graph_of(rt.alloc(), "rank 2\ntuple abAB\n")?;
+    let seen = square_seen(&net, letter(b'a')?, letter(b'b')?);
+    assert_eq!(rt; seen, [1, 1, 0, 2]);
     Ok(())
+}
+
+/// Of a maximum flow from a letter to its inverse: whether it is a flow, its value, its least cut and what it reaches; then
+/// an entry of the first flow, and the value of that at the inverse.
+fn flow_seen(
+    net: &Net,
+    a: Letter,
+    b: Letter,
+) -> Option<(bool, i64, LetterSet, LetterSet, u32, i64)> {
+    let sink = a.inverse();
+    if a == sink {
+        return None;
+    }
+    if a.index() >= 2 * net.rank().get() {
+        return None;
+    }
+    let flow = max_flow_uncounted(net, a, sink);
+    let first = least_flow(net, &flow, a, sink);
+    Some((
+        check_flow(net, a, sink, &flow),
+        flow.value(a),
+        least_cut(net, &flow, a, sink),
+        reach(net, &flow, a),
+        first.get(a, b),
+        first.value(sink),
+    ))
 }
 
 #[test]
 fn a_maximum_flow_fills_the_least_cut(rt: HostRuntime) -> Result<(), Fail> {
-    let net = graph(&tuple(rt.alloc(), "rank 2\ntuple abAB\n")?);
+    let net = graph_of(rt.alloc(), "rank 2\ntuple abAB\n")?;
     let a = letter(b'a')?;
-    let sink = a.inverse();
-    assert!(rt; a != sink);
-    assert!(rt; a.index() < 2 * net.rank().get());
-    let flow = max_flow_uncounted(&net, a, sink);
-    assert!(rt; check_flow(&net, a, sink, &flow));
-    assert_eq!(rt; flow.value(a), 2);
-    assert_eq!(rt; least_cut(&net, &flow, a, sink), LetterSet::empty().with(a));
-    assert_eq!(rt; reach(&net, &flow, a), LetterSet::empty().with(a));
-    let first = least_flow(&net, &flow, a, sink);
-    assert_eq!(rt; first.get(a, letter(b'b')?), 1);
-    assert_eq!(rt; first.value(sink), -2);
+    let only = LetterSet::empty().with(a);
+    let seen = flow_seen(&net, a, letter(b'b')?);
+    assert_eq!(rt; seen, Some((true, 2, only, only, 1, -2)));
     Ok(())
+}
+
+/// Whether nothing, one and two from a letter to its inverse are flows.
+fn carried(net: &Net, a: Letter) -> [bool; 3] {
+    let mut flow = Flow::zero();
+    let nothing = check_flow(net, a, a.inverse(), &flow);
+    flow.set(a, a.inverse(), 1);
+    let one = check_flow(net, a, a.inverse(), &flow);
+    flow.set(a, a.inverse(), 2);
+    [nothing, one, check_flow(net, a, a.inverse(), &flow)]
 }
 
 #[test]
 fn more_than_the_edges_carry_is_no_flow(rt: HostRuntime) -> Result<(), Fail> {
-    let net = graph(&tuple(rt.alloc(), "rank 2\ntuple aab\n")?);
-    let a = letter(b'a')?;
-    let mut flow = Flow::zero();
-    assert!(rt; check_flow(&net, a, a.inverse(), &flow));
-    flow.set(a, a.inverse(), 1);
-    assert!(rt; check_flow(&net, a, a.inverse(), &flow));
-    flow.set(a, a.inverse(), 2);
-    assert!(rt; !check_flow(&net, a, a.inverse(), &flow));
+    let net = graph_of(rt.alloc(), "rank 2\ntuple aab\n")?;
+    assert_eq!(rt; carried(&net, letter(b'a')?), [true, true, false]);
     Ok(())
+}
+
+/// How many moves a trace has, whether a text spells its end, and how many flows that has.
+fn trace_seen(alloc: Global, trace: &Trace, end: &str) -> Result<(usize, bool, usize), Fail>
+    requires { IsFlatByCapacities trace.now.end.plain }
+{
+    let flows = flows(alloc, &trace.end)?;
+    Ok((
+        trace.moves.items().len(),
+        are_spelled(trace.end.letters(), end),
+        flows.len(),
+    ))
+}
+
+/// The trace of the tuple of a problem text.
+fn reduced(alloc: Global, text: &str) -> Result<Trace, Fail>
+    ensures { IfOk result (λ r. IsFlatByCapacities r.end.plain) }
+{
+    let tuple = tuple(alloc, text)?;
+    Ok(reduce(alloc, &tuple)?)
+}
+
+/// What is seen of the trace of the word abcABC.
+fn six_letters_reduced(alloc: Global) -> Result<(usize, bool, usize), Fail> {
+    let trace = reduced(alloc, "rank 3\ntuple abcABC\n")?;
+    trace_seen(alloc, &trace, "bcBC")
 }
 
 #[test]
 fn a_flow_stands_for_each_generator(rt: HostRuntime) -> Result<(), Fail> {
-    let alloc = rt.alloc();
-    let trace = reduce(alloc, &tuple(alloc, "rank 3\ntuple abcABC\n")?)?;
-    assert_eq!(rt; trace.moves.items().len(), 1);
-    assert!(rt; is_spelled(&trace.end, "bcBC"));
-    assert_eq!(rt; flows(alloc, &trace.end)?.len(), 3);
+    assert_eq!(rt; six_letters_reduced(rt.alloc())?, (1, true, 3));
     Ok(())
 }

@@ -1,5 +1,6 @@
 //! Faults of reading and writing, in mid-stream.
-use crate::support::source;
+use crate::support::{sink, source};
+use std::alloc::Global;
 use std::test::Fail;
 use wh_io::{MemSink, MemSource, Sink, Source};
 use wh_text::Status;
@@ -7,57 +8,80 @@ use whitehead::run;
 
 const PROBLEM: &[u8] = b"rank 2\ntuple ab\n";
 
+/// How a run ended: its status, whether the sink held and sent just so many bytes, and the faults of both devices.
+#[derive(Clone, Copy, Debug, PartialEq, Eq)]
+struct Ending {
+    status: Status,
+    held: bool,
+    sent: bool,
+    read_faults: u64,
+    write_faults: u64,
+}
+
+/// Runs over devices in memory, whose sink is to hold and to send these bytes.
+fn observed(
+    alloc: Global,
+    word: &str,
+    source: &mut MemSource,
+    sink: &mut MemSink,
+    held: &[u8],
+    sent: &[u8],
+) -> Ending {
+    let status = run(alloc, &[word], source, sink);
+    Ending {
+        status,
+        held: sink.held() == held,
+        sent: sink.sent() == sent,
+        read_faults: source.faults(),
+        write_faults: sink.faults(),
+    }
+}
+
+/// Runs over a source that gives 10 bytes in a read, of which those with these numbers fail, and a sink that is to hold and
+/// to send these bytes.
+fn read(alloc: Global, word: &str, fails: &[u64], held: &[u8]) -> Result<Ending, Fail> {
+    let mut source = source(alloc, PROBLEM, 10, fails)?;
+    let mut sink = MemSink::new(alloc, 4096, Vec::new(alloc));
+    Ok(observed(alloc, word, &mut source, &mut sink, held, held))
+}
+
+/// Runs over a sink that takes 16 bytes in a write, of which those with these numbers fail.
+fn written(alloc: Global, fails: &[u64], held: &[u8], sent: &[u8]) -> Result<Ending, Fail> {
+    let mut sink = sink(alloc, 16, fails)?;
+    let mut source = source(alloc, PROBLEM, 4096, &[])?;
+    Ok(observed(alloc, "reduce", &mut source, &mut sink, held, sent))
+}
+
+/// That a run ended so, and the sink held and sent what it should.
+fn ended(status: Status, read_faults: u64, write_faults: u64) -> Ending {
+    Ending {
+        status,
+        held: true,
+        sent: true,
+        read_faults,
+        write_faults,
+    }
+}
+
 #[test]
 fn a_read_fault_writes_nothing(rt: HostRuntime) -> Result<(), Fail> {
-    let alloc = rt.alloc();
-    let mut source = MemSource::new(
-        Vec::from_slice(alloc, PROBLEM)?,
-        10,
-        Vec::from_slice(alloc, &[2])?,
-    );
-    let mut sink = MemSink::new(alloc, 4096, Vec::new(alloc));
-    assert_eq!(rt;
-        run(alloc, &["reduce"], &mut source, &mut sink),
-        Status::ReadFault
-    );
-    assert_eq!(rt; sink.held(), b"".as_slice());
-    assert_eq!(rt; source.faults(), 1);
+    let seen = read(rt.alloc(), "reduce", &[2], b"")?;
+    assert_eq!(rt; seen, ended(Status::ReadFault, 1, 0));
     Ok(())
 }
 
 #[test]
-fn a_write_fault_leaves_a_front_of_the_text(rt: HostRuntime) -> Result<(), Fail> {
-    let alloc = rt.alloc();
-    let fails = Vec::from_slice(alloc, &[2])?;
-    let mut source = source(alloc, PROBLEM)?;
-    let mut sink = MemSink::new(alloc, 16, fails);
-    assert_eq!(rt;
-        run(alloc, &["reduce"], &mut source, &mut sink),
-        Status::WriteFault
-    );
-    assert_eq!(rt; sink.held(), b"whitehead 1 redu".as_slice());
-    assert_eq!(rt; sink.sent(), b"".as_slice());
-    assert_eq!(rt; sink.faults(), 1);
+fn a_write_fault_leaves_a_prefix_of_the_text(rt: HostRuntime) -> Result<(), Fail> {
+    let seen = written(rt.alloc(), &[2], b"whitehead 1 redu", b"")?;
+    assert_eq!(rt; seen, ended(Status::WriteFault, 0, 1));
     Ok(())
 }
 
 #[test]
 fn refused_words_read_nothing(rt: HostRuntime) -> Result<(), Fail> {
-    let alloc = rt.alloc();
     // A read would fail.
-    let mut source = MemSource::new(
-        Vec::from_slice(alloc, PROBLEM)?,
-        10,
-        Vec::from_slice(alloc, &[1])?,
-    );
-    let mut sink = MemSink::new(alloc, 4096, Vec::new(alloc));
-    assert_eq!(rt;
-        run(alloc, &["solve"], &mut source, &mut sink),
-        Status::Refused
-    );
-    assert_eq!(rt; sink.held(), b"refused words\n".as_slice());
-    assert_eq!(rt; sink.sent(), sink.held());
-    assert_eq!(rt; source.faults(), 0);
+    let seen = read(rt.alloc(), "solve", &[1], b"refused words\n")?;
+    assert_eq!(rt; seen, ended(Status::Refused, 0, 0));
     Ok(())
 }
 

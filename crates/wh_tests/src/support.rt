@@ -1,13 +1,35 @@
-//! What the tests share: a run over memory, and words from their spelling.
+//! What the tests share: words, tuples and moves from their spelling, and devices over memory.
+//!
+//! A test asserts once, of what a function saw that owned what it looked at and let it go. Where owners of memory are alive
+//! at an assertion or at a `?`, the test takes the checker minutes.
+ghost use Rattle.std.specs.Prelude.{◌≡◌, ◌<◌, ◌≤◌, IfOk};
+ghost use Rattle.wh_words.specs.Limits.{most_rank};
+
 use std::alloc::Global;
 use std::test::Fail;
-use wh_io::MemSource;
+use wh_io::{MemSink, MemSource};
+use wh_moves::Move;
 use wh_text::{Command, Problem, read_problem};
-use wh_words::{Letter, Tuple, Word};
+use wh_words::{Letter, LetterSet, Rank, Tuple, Word};
 
-/// A source that gives all it has and never fails.
-pub(crate) fn source(alloc: Global, input: &[u8]) -> Result<MemSource, Fail> {
-    Ok(MemSource::new(Vec::from_slice(alloc, input)?, 4096, Vec::new(alloc)))
+/// A source that gives at most so many bytes in a read, and whose reads with these numbers fail.
+pub(crate) fn source(
+    alloc: Global,
+    input: &[u8],
+    most: usize,
+    fails: &[u64],
+) -> Result<MemSource, Fail>
+    requires { 0 < most }
+{
+    let bytes = Vec::from_slice(alloc, input)?;
+    Ok(MemSource::new(bytes, most, Vec::from_slice(alloc, fails)?))
+}
+
+/// A sink that takes at most so many bytes in a write, and whose writes with these numbers fail.
+pub(crate) fn sink(alloc: Global, most: usize, fails: &[u64]) -> Result<MemSink, Fail>
+    requires { 0 < most }
+{
+    Ok(MemSink::new(alloc, most, Vec::from_slice(alloc, fails)?))
 }
 
 /// The letter that a byte spells.
@@ -31,7 +53,8 @@ pub(crate) fn letters(alloc: Global, text: &str) -> Result<Vec<Letter>, Fail> {
 
 /// The reduced word of a text.
 pub(crate) fn word(alloc: Global, text: &str) -> Result<Word, Fail> {
-    Ok(Word::reduce(alloc, &letters(alloc, text)?)?)
+    let letters = letters(alloc, text)?;
+    Ok(Word::reduce(alloc, &letters)?)
 }
 
 /// The byte that spells a letter.
@@ -40,9 +63,8 @@ fn byte(letter: Letter) -> u8 {
     first + letter.generator() - 1
 }
 
-/// Whether a text spells the letters of all words of a tuple in one row.
-pub(crate) fn is_spelled(tuple: &Tuple, text: &str) -> bool {
-    let letters = tuple.letters();
+/// Whether a text spells letters.
+pub(crate) fn are_spelled(letters: &[Letter], text: &str) -> bool {
     let bytes = text.as_bytes();
     if letters.len() != bytes.len() {
         return false;
@@ -55,23 +77,58 @@ pub(crate) fn is_spelled(tuple: &Tuple, text: &str) -> bool {
     true
 }
 
-/// Whether texts spell the words of tuples, one by one.
-pub(crate) fn are_spelled(tuples: &[Tuple], texts: &[&str]) -> bool {
-    if tuples.len() != texts.len() {
+/// Whether texts spell the words of a tuple, one by one.
+pub(crate) fn has_words(tuple: &Tuple, texts: &[&str]) -> bool {
+    if tuple.count() != texts.len() {
         return false;
     }
-    for k in 0..tuples.len() {
-        if !is_spelled(&tuples[k], texts[k]) {
+    for k in 0..texts.len() {
+        if !are_spelled(tuple.word(k), texts[k]) {
             return false;
         }
     }
     true
 }
 
+/// Whether tuples have one word each, and texts spell these.
+pub(crate) fn have_words(tuples: &[Tuple], texts: &[&str]) -> bool {
+    if tuples.len() != texts.len() {
+        return false;
+    }
+    for k in 0..tuples.len() {
+        if !has_words(&tuples[k], &[texts[k]]) {
+            return false;
+        }
+    }
+    true
+}
+
+/// The tuple of a problem of `reduce`.
+fn only_tuple(problem: Problem) -> Option<Tuple> {
+    match problem {
+        Problem::Reduce { tuple } => Some(tuple),
+        Problem::Decide { .. } => None,
+    }
+}
+
 /// The tuple of a problem text.
 pub(crate) fn tuple(alloc: Global, text: &str) -> Result<Tuple, Fail> {
-    match read_problem(alloc, Command::Reduce, text.as_bytes())? {
-        Problem::Reduce { tuple } => Ok(tuple),
-        Problem::Decide { .. } => Err("two tuples")?,
-    }
+    let problem = read_problem(alloc, Command::Reduce, text.as_bytes())?;
+    Ok(only_tuple(problem).ok_or("two tuples")?)
+}
+
+/// A rank.
+pub(crate) fn rank(n: u8) -> Rank
+    requires least { 0 < n }
+    requires greatest { n ≤ most_rank }
+    ensures { result ≡ n }
+{
+    Rank::new(n).unwrap()
+}
+
+/// The cut of a rank with a multiplier, told by its byte, and a set, told by its bits.
+pub(crate) fn cut(rank: Rank, mult: u8, set: u64) -> Result<Move, Fail>
+    ensures { IfOk result (λ m. m.rank ≡ rank) }
+{
+    Ok(Move::cut(rank, letter(mult)?, LetterSet::of_bits(set)).ok_or("cut")?)
 }

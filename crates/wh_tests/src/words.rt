@@ -1,123 +1,165 @@
 //! Words, cyclic words and tuples.
-use crate::support::{letters, tuple, word};
+use crate::support::{are_spelled, letter, rank, tuple, word};
 use std::alloc::Global;
-use std::process::Abort;
 use std::test::Fail;
-use wh_words::{CyclicWord, LetterSet, List, Rank, Tuple};
+use wh_words::{CyclicWord, LetterSet, List, Tuple};
 
-/// Asserts the free reduction of a text.
-fn reduces_to(rt: &impl Abort, alloc: Global, text: &str, reduced: &str) -> Result<(), Fail> {
+/// Whether a text has this free reduction.
+fn reduces_to(alloc: Global, text: &str, reduced: &str) -> Result<bool, Fail> {
     let word = word(alloc, text)?;
-    let reduced = letters(alloc, reduced)?;
-    assert_eq!(rt; word.letters(), reduced.as_slice());
-    Ok(())
+    Ok(are_spelled(word.letters(), reduced))
+}
+
+/// Whether texts have these free reductions.
+fn reduce_to(alloc: Global, cases: &[(&str, &str)]) -> Result<bool, Fail> {
+    for (text, reduced) in cases {
+        if !reduces_to(alloc, text, reduced)? {
+            return Ok(false);
+        }
+    }
+    Ok(true)
 }
 
 #[test]
 fn words_are_reduced(rt: HostRuntime) -> Result<(), Fail> {
-    let alloc = rt.alloc();
-    reduces_to(&rt, alloc, "", "")?;
-    reduces_to(&rt, alloc, "aA", "")?;
-    reduces_to(&rt, alloc, "abBAc", "c")?;
-    reduces_to(&rt, alloc, "abBAaabAB", "aabAB")?;
-    reduces_to(
-        &rt,
-        alloc,
-        "aaaaaaaaaaaaaaaaaaaaaaaa",
-        "aaaaaaaaaaaaaaaaaaaaaaaa",
-    )
+    let cases = [
+        ("", ""),
+        ("aA", ""),
+        ("abBAc", "c"),
+        ("abBAaabAB", "aabAB"),
+        ("aaaaaaaaaaaaaaaaaaaaaaaa", "aaaaaaaaaaaaaaaaaaaaaaaa"),
+    ];
+    assert!(rt; reduce_to(rt.alloc(), &cases)?);
+    Ok(())
 }
 
-/// Asserts the cyclic word of a text.
-fn is_cyclically(rt: &impl Abort, alloc: Global, text: &str, cyclic: &str) -> Result<(), Fail> {
-    let made = CyclicWord::of(alloc, &word(alloc, text)?)?;
-    let cyclic = letters(alloc, cyclic)?;
-    assert_eq!(rt; made.letters(), cyclic.as_slice());
-    Ok(())
+/// Whether a text has this cyclic word.
+fn is_cyclically(alloc: Global, text: &str, cyclic: &str) -> Result<bool, Fail> {
+    let word = word(alloc, text)?;
+    let made = CyclicWord::of(alloc, &word)?;
+    Ok(are_spelled(made.letters(), cyclic))
+}
+
+/// Whether texts have these cyclic words.
+fn are_cyclically(alloc: Global, cases: &[(&str, &str)]) -> Result<bool, Fail> {
+    for (text, cyclic) in cases {
+        if !is_cyclically(alloc, text, cyclic)? {
+            return Ok(false);
+        }
+    }
+    Ok(true)
 }
 
 #[test]
 fn cyclic_words_are_the_first_rotations(rt: HostRuntime) -> Result<(), Fail> {
-    let alloc = rt.alloc();
-    is_cyclically(&rt, alloc, "", "")?;
-    is_cyclically(&rt, alloc, "bAB", "A")?;
-    is_cyclically(&rt, alloc, "BabAb", "b")?;
-    is_cyclically(&rt, alloc, "BAba", "aBAb")?;
-    is_cyclically(&rt, alloc, "baba", "abab")?;
-    is_cyclically(&rt, alloc, "aaCBcAcACb", "aaCBcAcACb")
+    let cases = [
+        ("", ""),
+        ("bAB", "A"),
+        ("BabAb", "b"),
+        ("BAba", "aBAb"),
+        ("baba", "abab"),
+        ("aaCBcAcACb", "aaCBcAcACb"),
+    ];
+    assert!(rt; are_cyclically(rt.alloc(), &cases)?);
+    Ok(())
 }
 
-/// Asserts the order of two words.
-fn comes_before(rt: &impl Abort, alloc: Global, less: &str, more: &str) -> Result<(), Fail> {
+/// Whether one word comes before another one.
+fn comes_before(alloc: Global, less: &str, more: &str) -> Result<bool, Fail> {
     let less = word(alloc, less)?;
     let more = word(alloc, more)?;
-    assert!(rt; less < more);
-    Ok(())
+    Ok(less < more)
+}
+
+/// Whether the first word of each pair comes before the second.
+fn come_before(alloc: Global, cases: &[(&str, &str)]) -> Result<bool, Fail> {
+    for (less, more) in cases {
+        if !comes_before(alloc, less, more)? {
+            return Ok(false);
+        }
+    }
+    Ok(true)
 }
 
 #[test]
 fn words_are_ordered_letter_by_letter(rt: HostRuntime) -> Result<(), Fail> {
-    let alloc = rt.alloc();
-    comes_before(&rt, alloc, "a", "A")?;
-    comes_before(&rt, alloc, "A", "b")?;
-    comes_before(&rt, alloc, "a", "ab")?;
-    comes_before(&rt, alloc, "", "a")?;
-    comes_before(&rt, alloc, "aB", "bA")
+    let cases = [("a", "A"), ("A", "b"), ("a", "ab"), ("", "a"), ("aB", "bA")];
+    assert!(rt; come_before(rt.alloc(), &cases)?);
+    Ok(())
 }
 
 #[test]
 fn sets_have_their_letters(rt: HostRuntime) -> Result<(), Fail> {
-    let rank = Rank::new(2).ok_or("rank")?;
-    let a = crate::support::letter(b'a')?;
-    let b = crate::support::letter(b'b')?;
+    let a = letter(b'a')?;
+    let b = letter(b'b')?;
     let set = LetterSet::empty().with(a).with(b.inverse());
-    assert_eq!(rt; set.bits(), 9);
-    assert_eq!(rt; set.complement(rank).bits(), 6);
-    assert_eq!(rt; set.without(a).bits(), 8);
-    assert!(rt; set.contains(b.inverse()));
-    assert!(rt; !set.contains(b));
+    let bits = [
+        set.bits(),
+        set.complement(rank(2)).bits(),
+        set.without(a).bits(),
+    ];
+    assert_eq!(rt; bits, [9, 6, 8]);
+    assert_eq!(rt; [set.contains(b.inverse()), set.contains(b)], [true, false]);
     Ok(())
+}
+
+/// Whether a list has items, and how many it gives back.
+fn given_back(alloc: Global, items: &[u8]) -> Result<(bool, usize), Fail> {
+    let list = List::of(Vec::from_slice(alloc, items)?);
+    let has = list.items() == items;
+    Ok((has, list.into_items().len()))
 }
 
 #[test]
 fn lists_give_their_items_back(rt: HostRuntime) -> Result<(), Fail> {
-    let list = List::of(Vec::from_slice(rt.alloc(), &[1, 2, 3])?);
-    assert_eq!(rt; list.items(), [1, 2, 3].as_slice());
-    assert_eq!(rt; list.into_items().len(), 3);
+    assert_eq!(rt; given_back(rt.alloc(), &[1, 2, 3])?, (true, 3));
     Ok(())
 }
 
-/// Asserts whether two tuples of rank 3, as problem texts tell them, are equal.
-fn are_equal(
-    rt: &impl Abort,
-    alloc: Global,
-    one: &str,
-    other: &str,
-    equal: bool,
-) -> Result<(), Fail> {
-    let one = tuple(alloc, one)?;
+/// Whether a tuple equals that of a problem text, by the operator and by the call.
+fn equals(alloc: Global, one: &Tuple, other: &str) -> Result<(bool, bool), Fail> {
     let other = tuple(alloc, other)?;
-    assert_eq!(rt; one == other, equal);
-    assert_eq!(rt; one.same(&other), equal);
-    Ok(())
+    Ok((*one == other, one.same(&other)))
+}
+
+/// Whether a tuple of rank 3 equals that of a problem text.
+fn is_equal(alloc: Global, other: &str) -> Result<(bool, bool), Fail> {
+    let one = tuple(alloc, "rank 3\ntuple ab c\n")?;
+    equals(alloc, &one, other)
+}
+
+/// Whether a tuple of rank 3 equals those of problem texts just where this is told.
+fn are_equal(alloc: Global, cases: &[(&str, bool)]) -> Result<bool, Fail> {
+    for (other, equal) in cases {
+        let (by_operator, by_call) = is_equal(alloc, other)?;
+        if by_operator != *equal || by_call != *equal {
+            return Ok(false);
+        }
+    }
+    Ok(true)
 }
 
 #[test]
 fn tuples_are_compared_by_their_words(rt: HostRuntime) -> Result<(), Fail> {
-    let alloc = rt.alloc();
-    let text = "rank 3\ntuple ab c\n";
-    are_equal(&rt, alloc, text, "rank 3\ntuple ba c\n", true)?;
-    are_equal(&rt, alloc, text, "rank 3\ntuple c ab\n", false)?;
-    are_equal(&rt, alloc, text, "rank 3\ntuple a bc\n", false)?;
-    are_equal(&rt, alloc, text, "rank 3\ntuple ab\n", false)?;
-    are_equal(&rt, alloc, text, "rank 4\ntuple ab c\n", false)
+    let cases = [
+        ("rank 3\ntuple ba c\n", true),
+        ("rank 3\ntuple c ab\n", false),
+        ("rank 3\ntuple a bc\n", false),
+        ("rank 3\ntuple ab\n", false),
+        ("rank 4\ntuple ab c\n", false),
+    ];
+    assert!(rt; are_equal(rt.alloc(), &cases)?);
+    Ok(())
+}
+
+/// How many words and how many letters the tuple of no words has.
+fn empty_size(alloc: Global) -> Result<(usize, u32), Fail> {
+    let empty = Tuple::of_cyclic(alloc, rank(3), &[])?;
+    Ok((empty.count(), empty.length()))
 }
 
 #[test]
 fn no_cyclic_words_make_the_empty_tuple(rt: HostRuntime) -> Result<(), Fail> {
-    let rank = Rank::new(3).ok_or("rank")?;
-    let empty = Tuple::of_cyclic(rt.alloc(), rank, &[])?;
-    assert_eq!(rt; empty.count(), 0);
-    assert_eq!(rt; empty.length(), 0);
+    assert_eq!(rt; empty_size(rt.alloc())?, (0, 0));
     Ok(())
 }

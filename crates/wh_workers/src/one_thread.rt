@@ -1,5 +1,5 @@
 //! Exploring a level on one thread.
-ghost use Rattle.std.specs.Prelude.{◌≡◌, ℕ, ◌+◌, ◌<◌, ◌≤◌, [], length, map, IfOk, OnOk};
+ghost use Rattle.std.specs.Prelude.{◌≡◌, ℕ, ◌+◌, ◌<◌, ◌≤◌, [], ◌∷◌, ◌++◌, length, map, IfOk, OnOk};
 ghost use Rattle.std.specs.List.{All, IsDistinct};
 ghost use Rattle.std.specs.Bool.{MatchBool};
 ghost use Rattle.std.specs.Ordering.{eq_by_cmp};
@@ -49,6 +49,26 @@ fn meet_images(
     Ok(())
 }
 
+/// Meets the images of the tuple of a row under its level moves, and keeps the row.
+fn keep_row(
+    alloc: Global,
+    row: Row,
+    limit: u32,
+    known: &mut TupleSet,
+    rows: &mut Vec<Row>,
+    scratch: &mut Tuple,
+) -> Result<(), OutOfMemory>
+    requires row { IsRow row }
+    requires room { HasRoomFor scratch.old (row_tuple row) }
+    ensures met { OnOk result (HasMetImages (row_tuple row) limit known.old known.new) }
+    ensures kept { OnOk result (rows.new.items ≡ rows.old.items ++ row ∷ []) }
+    ensures room { HasRoomFor scratch.new (row_tuple row) }
+{
+    meet_images(alloc, &row, limit, known, scratch)?;
+    rows.push(row)?;
+    Ok(())
+}
+
 /// The level whose rows these are.
 #[tactic(auto, using(crate::proofs::Wholes::whole_within, crate::proofs::Wholes::nothing_missed, crate::proofs::Wholes::whole_count))]
 fn closed(alloc: Global, root: &Tuple, rows: &[Row]) -> Result<Explored, OutOfMemory>
@@ -90,8 +110,7 @@ fn expand_known<L: Ledger>(
             return Ok(false);
         }
         let row = level_moves(alloc, known.tuple(rows.len()), steps)?;
-        meet_images(alloc, &row, limit, known, scratch)?;
-        rows.push(row)?;
+        keep_row(alloc, row, limit, known, rows, scratch)?;
     }
     Ok(true)
 }

@@ -16,8 +16,8 @@ level_moves-requires g c =
     let next : slice_get c.expand.known (length c.expand.rows.items) ≡ Some c.tuple.result.now.plain = ap (slice_get c.expand.known) (search rules) ∙ c.tuple.ensures in
     next_rank c.args.root.now.plain c.args.limit c.expand.known c.expand.rows.items c.tuple.result.now.plain c.requires.rank c.expand.invariant.0 next
 
-pub meet_images-requires-clause-room : goal.meet_images-requires-clause-room
-meet_images-requires-clause-room g c =
+pub keep_row-requires-clause-room : goal.keep_row-requires-clause-room
+keep_row-requires-clause-room g c =
     let next : slice_get c.expand.known (length c.expand.rows.items) ≡ Some c.tuple.result.now.plain = ap (slice_get c.expand.known) (search rules) ∙ c.tuple.ensures in
     (next_room c.args.root.now.plain c.args.limit c.expand.known c.expand.rows.items c.tuple.result.now.plain c.in_ok-row.row c.expand.scratch c.expand.invariant.0 next (ap (λ t. t.plain) c.in_ok-row.ensures.tuple)).0 c.expand.invariant.1
 
@@ -25,11 +25,11 @@ pub expand-preserved : goal.expand-preserved
 expand-preserved g c =
     let next : slice_get c.expand.known (length c.expand.rows.items) ≡ Some c.tuple.result.now.plain = ap (slice_get c.expand.known) (search rules) ∙ c.tuple.ensures in
     let same : row_tuple c.in_ok-row.row ≡ c.tuple.result.now.plain = ap (λ t. t.plain) c.in_ok-row.ensures.tuple in (
-      subst (λ rows. IsExploring c.args.root.now.plain c.args.limit c.meet_images.new.known rows) (sym c.in_ok-push.ensures.items)
-          (exploring_more c.args.root.now.plain c.args.limit c.expand.known c.meet_images.new.known c.expand.rows.items c.in_ok-row.row c.tuple.result.now.plain c.expand.invariant.0
-          (search rules) next same c.in_ok-row.ensures.moves c.in_ok-meet_images.ensures.met),
-      (next_room c.args.root.now.plain c.args.limit c.expand.known c.expand.rows.items c.tuple.result.now.plain c.in_ok-row.row c.meet_images.new.scratch c.expand.invariant.0 next same).1 c.meet_images.ensures.room,
-      omega (arith, c.in_ok-row.ensures.step, c.expand.invariant.2, ap length c.in_ok-push.ensures.items, length-append c.expand.rows.items (c.in_ok-row.row ∷ [])),
+      subst (λ rows. IsExploring c.args.root.now.plain c.args.limit c.keep_row.new.known rows) (sym c.in_ok-keep_row.ensures.kept)
+          (exploring_more c.args.root.now.plain c.args.limit c.expand.known c.keep_row.new.known c.expand.rows.items c.in_ok-row.row c.tuple.result.now.plain c.expand.invariant.0
+          (search rules) next same c.in_ok-row.ensures.moves c.in_ok-keep_row.ensures.met),
+      (next_room c.args.root.now.plain c.args.limit c.expand.known c.expand.rows.items c.tuple.result.now.plain c.in_ok-row.row c.keep_row.new.scratch c.expand.invariant.0 next same).1 c.keep_row.ensures.room,
+      omega (arith, c.in_ok-row.ensures.step, c.expand.invariant.2, ap length c.in_ok-keep_row.ensures.kept, length-append c.expand.rows.items (c.in_ok-row.row ∷ [])),
     )
 
 pub returns-clause-expanded : goal.returns-clause-expanded
