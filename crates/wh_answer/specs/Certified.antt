@@ -10,7 +10,7 @@ use Rattle.wh_peak.specs.Automorphisms.{composite}
 use Rattle.wh_peak.specs.Stabilisers.{LeadsToFlat}
 use Rattle.wh_nielsen.specs.Automorphisms.{IsAutomorphism, act_by, IsCarried}
 use Rattle.wh_text.specs.AnswerTexts.{answer_text}
-use Rattle.wh_text.specs.AnswerData.{SideData, VerdictData, AnswerData}
+use Rattle.wh_text.specs.AnswerData.{VerdictData, AnswerData}
 use Rattle.wh_text.specs.AnswerData.VerdictData.{yes, no_length, no_level, undecided}
 use Rattle.wh_text.specs.AnswerData.AnswerData.{reduce, decide}
 use Rattle.wh_text.specs.Limits.{most_answer_bytes}

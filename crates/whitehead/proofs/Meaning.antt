@@ -30,7 +30,7 @@ use Rattle.whitehead.specs.Replies.Replies.{refused, answered, unread, checked}
 use Rattle.whitehead.specs.Asked.{asked}
 use Rattle.whitehead.specs.Outcome.{Told}
 use Rattle.whitehead.specs.Outcome.Told.{words_refused, replied}
-use Rattle.whitehead.specs.Meanings.{SaysOf, IsShown, IsTrue}
+use Rattle.whitehead.specs.Meanings.{SaysOf, IsShown}
 use Rattle.whitehead.specs.Laws.{AskCheck, ToldIsTrue, ValidIsShown}
 use Rattle.whitehead.proofs.ReadProblems.{read_problem}
 use Rattle.whitehead.proofs.ReadTuples.{certificate_tuples}

@@ -1,9 +1,8 @@
 -- The words and the bytes of a run determine what is told.
-use Rattle.std.proofs.Common.{◌≡◌, ℕ, List, refl, sym, ap, ◌∙◌, subst, Result, Ok, Err, Option, Some}
+use Rattle.std.proofs.Common.{◌≡◌, ℕ, List, refl, sym, ap, ◌∙◌, subst, Result, Ok}
 use Rattle.wh_lines.specs.declared.read_error.ReadError.{ReadError}
 use Rattle.wh_lines.proofs.Equations.{ok_is, err_is, some_is}
 use Rattle.wh_text.specs.declared.status.Status.{Status}
-use Rattle.wh_text.specs.Problems.{ProblemData}
 use Rattle.wh_text.specs.RefusalTexts.{refusal_text}
 use Rattle.wh_answer.specs.Answers.{Answers}
 use Rattle.wh_answer.proofs.OneAnswer.{answer_one}
