@@ -21,6 +21,7 @@ task_named t None = cond (are t (codes "check")) (Some tasks.Check) None
 
 abbrev pub task_of : Text → Option Task
 task_of t = task_named t (command_named t)
+
 abbrev pub task_in : Option Text → Option Task
 task_in None = None
 task_in (Some t) = task_of t
