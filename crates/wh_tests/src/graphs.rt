@@ -52,21 +52,26 @@ fn square_seen(net: &Net, a: Letter, b: Letter) -> [u32; 4] {
     ]
 }
 
+/// The same for the graph of a commutator.
+fn commutator_square(alloc: Global) -> Result<[u32; 4], Fail> {
+    let a = letter(b'a')?;
+    let b = letter(b'b')?;
+    let net = graph_of(alloc, "rank 2\ntuple abAB\n")?;
+    Ok(square_seen(&net, a, b))
+}
+
 #[test]
 fn the_graph_of_a_commutator_is_a_square(rt: HostRuntime) -> Result<(), Fail> {
-    let net = graph_of(rt.alloc(), "rank 2\ntuple abAB\n")?;
-    let seen = square_seen(&net, letter(b'a')?, letter(b'b')?);
-    assert_eq!(rt; seen, [1, 1, 0, 2]);
+    assert_eq!(rt; commutator_square(rt.alloc())?, [1, 1, 0, 2]);
     Ok(())
 }
 
 /// Of a maximum flow from a letter to its inverse: whether it is a flow, its value, its least cut and what it reaches; then
 /// an entry of the first flow, and the value of that at the inverse.
-fn flow_seen(
-    net: &Net,
-    a: Letter,
-    b: Letter,
-) -> Option<(bool, i64, LetterSet, LetterSet, u32, i64)> {
+type FlowSeen = (bool, i64, LetterSet, LetterSet, u32, i64);
+
+/// What is seen of a maximum flow, where its ends differ and are of the rank.
+fn flow_seen(net: &Net, a: Letter, b: Letter) -> Option<FlowSeen> {
     let sink = a.inverse();
     if a == sink {
         return None;
@@ -86,13 +91,21 @@ fn flow_seen(
     ))
 }
 
+/// The same for the graph of a commutator.
+fn commutator_flow(alloc: Global) -> Result<Option<FlowSeen>, Fail> {
+    let a = letter(b'a')?;
+    let b = letter(b'b')?;
+    let net = graph_of(alloc, "rank 2\ntuple abAB\n")?;
+    Ok(flow_seen(&net, a, b))
+}
+
 #[test]
 fn a_maximum_flow_fills_the_least_cut(rt: HostRuntime) -> Result<(), Fail> {
-    let net = graph_of(rt.alloc(), "rank 2\ntuple abAB\n")?;
-    let a = letter(b'a')?;
-    let only = LetterSet::empty().with(a);
-    let seen = flow_seen(&net, a, letter(b'b')?);
-    assert_eq!(rt; seen, Some((true, 2, only, only, 1, -2)));
+    let only_a = LetterSet::of_bits(1);
+    assert_eq!(rt;
+        commutator_flow(rt.alloc())?,
+        Some((true, 2, only_a, only_a, 1, -2))
+    );
     Ok(())
 }
 
@@ -106,10 +119,16 @@ fn carried(net: &Net, a: Letter) -> [bool; 3] {
     [nothing, one, check_flow(net, a, a.inverse(), &flow)]
 }
 
+/// The same from a, in a graph with one edge from it to its inverse.
+fn carried_by_one(alloc: Global) -> Result<[bool; 3], Fail> {
+    let a = letter(b'a')?;
+    let net = graph_of(alloc, "rank 2\ntuple aab\n")?;
+    Ok(carried(&net, a))
+}
+
 #[test]
 fn more_than_the_edges_carry_is_no_flow(rt: HostRuntime) -> Result<(), Fail> {
-    let net = graph_of(rt.alloc(), "rank 2\ntuple aab\n")?;
-    assert_eq!(rt; carried(&net, letter(b'a')?), [true, true, false]);
+    assert_eq!(rt; carried_by_one(rt.alloc())?, [true, true, false]);
     Ok(())
 }
 

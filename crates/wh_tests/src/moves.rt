@@ -146,16 +146,26 @@ fn put_cut(tuple: &Tuple, into: &mut Tuple) -> Result<bool, Fail>
     Ok(true)
 }
 
-/// Whether a cut by a makes a tuple of the one word b, and what is then seen of the tuple that has it and of its copy.
-fn put_seen(alloc: Global, tuple: &Tuple) -> Result<(bool, (usize, bool, usize)), Fail> {
+/// What is seen of a tuple that a cut by a was put into: whether it is the one word b, and then its rooms and its copy's.
+type PutSeen = (bool, (usize, bool, usize));
+
+/// Puts into a tuple what a cut by a makes of another one, and tells what is then seen of it.
+fn put_into(alloc: Global, tuple: &Tuple, into: &mut Tuple) -> Result<PutSeen, Fail>
+    requires { into.old.room ≤ most_letters }
+{
+    let put = put_cut(tuple, into)?;
+    let has = put && has_words(into, &["b"]) && into.rank() == tuple.rank();
+    Ok((has, copy_seen(alloc, into)?))
+}
+
+/// The same in a tuple that has all the room that there may be.
+fn put_seen(alloc: Global, tuple: &Tuple) -> Result<PutSeen, Fail> {
     let mut into = Tuple::with_room(alloc, tuple.rank(), 64, 4096)?;
-    let put = put_cut(tuple, &mut into)?;
-    let has = put && has_words(&into, &["b"]) && into.rank() == tuple.rank();
-    Ok((has, copy_seen(alloc, &into)?))
+    put_into(alloc, tuple, &mut into)
 }
 
 /// The same for the tuple of the one word ab.
-fn one_put(alloc: Global) -> Result<(bool, (usize, bool, usize)), Fail> {
+fn one_put(alloc: Global) -> Result<PutSeen, Fail> {
     let tuple = tuple(alloc, "rank 2\ntuple ab\n")?;
     put_seen(alloc, &tuple)
 }
@@ -204,19 +214,21 @@ fn cuts_give(alloc: Global, cases: &[(u8, u64, [&str; 8])]) -> Result<bool, Fail
     Ok(true)
 }
 
+const SAME: [&str; 8] = ["", "a", "A", "aaa", "b", "aB", "aab", "bc"];
+
+const CASES: [(u8, u64, [&str; 8]); 5] = [
+    // The identity cut, and conjugation.
+    (b'a', 1, SAME),
+    (b'a', 61, SAME),
+    // b and c are multiplied by a; then b is conjugated by itself; then B is multiplied by A.
+    (b'a', 21, ["", "a", "A", "aaa", "ab", "B", "aaab", "abac"]),
+    (b'b', 7, SAME),
+    (b'A', 10, ["", "a", "A", "aaa", "ab", "B", "aaab", "abc"]),
+];
+
 #[test]
 fn cuts_act_on_degenerate_words(rt: HostRuntime) -> Result<(), Fail> {
-    let same = ["", "a", "A", "aaa", "b", "aB", "aab", "bc"];
-    let cases = [
-        // The identity cut, and conjugation.
-        (b'a', 1, same),
-        (b'a', 61, same),
-        // b and c are multiplied by a; then b is conjugated by itself; then B is multiplied by A.
-        (b'a', 21, ["", "a", "A", "aaa", "ab", "B", "aaab", "abac"]),
-        (b'b', 7, same),
-        (b'A', 10, ["", "a", "A", "aaa", "ab", "B", "aaab", "abc"]),
-    ];
-    assert!(rt; cuts_give(rt.alloc(), &cases)?);
+    assert!(rt; cuts_give(rt.alloc(), &CASES)?);
     Ok(())
 }
 
