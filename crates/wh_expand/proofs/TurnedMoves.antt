@@ -9,7 +9,6 @@ use Rattle.std.specs.Cmp.{nat_cmp_is}
 use Rattle.std.specs.List.Sorted.{IsStrictlySortedBy}
 use Rattle.std.specs.Ordering.{is_lt, nat_cmp, ordering_then}
 use Rattle.std.specs.declared.cmp.Ordering.TheVariants.{Less, Equal}
-use Rattle.wh_words.specs.Letters.{inverse_letter}
 use Rattle.wh_words.specs.Tuples.{TupleData, IsTuple}
 use Rattle.wh_words.specs.Moves.{Kind, Move, cut_move, kind_cmp, move_cmp}
 use Rattle.wh_words.specs.Moves.Kind.{swap, invert, cut}

@@ -1,5 +1,5 @@
 -- Cuts that act as others do.
-use Rattle.std.specs.Prelude.{◌≡◌, ℕ, ◌%◌}
+use Rattle.std.specs.Prelude.{◌≡◌, ◌%◌}
 use Rattle.wh_words.specs.Moves.{Kind}
 use Rattle.wh_words.specs.Moves.Kind.{swap, invert, cut}
 
