@@ -1,22 +1,22 @@
 -- What is left to try once the swaps, the inversions and the cuts with generators as multipliers are.
-use Rattle.std.proofs.Common.{◌≡◌, Bool, false, ◌≢◌, ℕ, ◌+◌, ◌*◌, ◌/◌, ◌^◌, ◌<◌, List, refl, sym, ap, ◌∙◌, subst, inl, inr, ◌↔◌, IsTrue, arith}
+use Rattle.std.proofs.Common.{◌≡◌, Bool, false, ◌≢◌, ℕ, ◌+◌, ◌*◌, ◌/◌, ◌<◌, List, sym, ap, ◌∙◌, subst, inl, inr, ◌↔◌, IsTrue, arith}
 use Rattle.std.specs.Prelude.{Contains}
-use Rattle.std.proofs.lemmas.Bool.{cases_eq, cases_lt, true≢false}
+use Rattle.std.proofs.lemmas.Bool.{cases_lt, true≢false}
 use Rattle.wh_words.specs.Letters.{inverse_letter}
 use Rattle.wh_words.specs.LetterSets.{in_set}
-use Rattle.wh_words.specs.Tuples.{TupleData, IsTuple, tuple_length}
-use Rattle.wh_words.specs.Moves.{Move, Kind, IsCut, cut_move}
+use Rattle.wh_words.specs.Tuples.{TupleData, IsTuple}
+use Rattle.wh_words.specs.Moves.{Move, Kind, cut_move}
 use Rattle.wh_words.specs.Moves.Kind.{swap, invert, cut}
 use Rattle.wh_words.specs.Action.{act}
 use Rattle.wh_words.specs.Levels.{IsLevelMove}
 use Rattle.wh_words.specs.Edges.{cap, deg}
-use Rattle.wh_moves.proofs.IdentityCuts.{identity_acts}
 use Rattle.wh_graph.proofs.LevelMoves.{level_cut}
-use Rattle.wh_graph.proofs.ComplementCuts.{generator_of, complement, complement_flips, complement_cut}
+use Rattle.wh_graph.proofs.ComplementCuts.{generator_of}
+use Rattle.wh_graph.proofs.TurnedCuts.{ActsAsGenerator, turned_cut}
+use Rattle.wh_graph.proofs.TurnedCuts.ActsAsGenerator.{itself, generator}
 use Rattle.wh_cert.specs.Demands.{ImagesAreIn}
 use Rattle.wh_sets.specs.TupleSets.{HaveSameTuples}
 use Rattle.wh_cert.specs.Listings.{StaysIn, SwapsStay, InversionsStay, CutsStay}
-use Rattle.wh_words.proofs.Complements.{turned_acts}
 
 -- ---- one after another
 pub next_before : (P : ℕ → Type 0) (k : ℕ) → ((j : ℕ) → j < k → P j) → P k → (j : ℕ) → j < k + 1 → P j
@@ -45,22 +45,11 @@ other_capacity us t a set is n m = absurd (n (level_cut t is a set m))
 module _ (us : List TupleData) (t : TupleData) (is : IsTuple t) (own : Contains us t) (cuts : CutsStay us t) where
   -- The cuts with inverses of generators act as those with generators.
   turned_stays : (a set : ℕ) → a ≡ inverse_letter (2 * (a / 2)) → StaysIn us t (cut_move t.rank a set)
-  turned_stays a set e level =
-      let x : ℕ = 2 * (a / 2) in
-      let turned : IsCut t.rank (inverse_letter x) set = subst (λ (b : ℕ). IsCut t.rank b set) e level.valid.kind in
-      let other : IsCut t.rank x (complement t.rank set) = complement_cut t.rank x set turned in
-      let same : act t (cut_move t.rank a set) ≡ act t (cut_move t.rank x (complement t.rank set)) =
-      ap (λ (b : ℕ). act t (cut_move t.rank b set)) e ∙ turned_acts t x (complement t.rank set) set is other turned (λ y l. complement_flips t.rank set y l) in
-      subst (Contains us) (sym same) (elim (cases_eq (complement t.rank set) (2 ^ x)) [
-        | inl alone ↦ subst (Contains us) (sym (identity_acts t (cut_move t.rank x (complement t.rank set)) is alone)) own
-        | inr more ↦
-            cuts (a / 2) (complement t.rank set) (record {
-              valid = record { rank = level.valid.rank; kind = other };
-              rank = refl;
-              kept = ap tuple_length (sym same) ∙ level.kept;
-              moves = more;
-            })
-      ])
+  turned_stays a set e level = from (turned_cut t a set is e level)
+    where
+      from : ActsAsGenerator t a set → Contains us (act t (cut_move t.rank a set))
+      from (itself same) = subst (Contains us) (sym same) own
+      from (generator other level same) = subst (Contains us) same (cuts (a / 2) other level)
 
   cut_stays : (a set : ℕ) → StaysIn us t (cut_move t.rank a set)
   cut_stays a set level = elim (generator_of a) [

@@ -1,3 +1,4 @@
 pub mod KindOrder
 pub mod FirstMoves
 pub mod Runs
+pub mod TurnedMoves

@@ -3,5 +3,7 @@
 
 mod cuts;
 mod row;
+mod turned;
 
 pub use row::{Row, level_moves};
+pub use turned::is_turned_cut;

@@ -11,3 +11,4 @@ pub mod WordLoops
 pub mod CapacitySums
 pub mod SetTables
 pub mod LevelMoves
+pub mod TurnedCuts

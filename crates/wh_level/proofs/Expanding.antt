@@ -3,12 +3,14 @@ use Rattle.std.proofs.Common.{inl, inr, ◌≡◌, ℕ, ◌+◌, ◌<◌, ◌≤
 use Rattle.std.proofs.lemmas.Bool.{cases_Bool}
 use Rattle.std.proofs.lemmas.List.{length-set, get_or_read}
 use Rattle.std.proofs.lemmas.Option.{slice_get_within, get_or_from_slice_get}
-use Rattle.wh_words.specs.Tuples.{TupleData}
+use Rattle.wh_words.specs.Tuples.{TupleData, IsTuple}
 use Rattle.wh_words.specs.Moves.{Move}
 use Rattle.wh_words.specs.Action.{act}
 use Rattle.wh_expand.specs.Rows.{AreLevelMoves}
+use Rattle.wh_expand.specs.TurnedCuts.{IsTurnedCut}
+use Rattle.wh_expand.proofs.TurnedMoves.{turned_acts_before}
 use Rattle.wh_level.specs.Searches.{SearchData, follow, IsSearched, HasCells, GoesOver}
-use Rattle.wh_level.proofs.Stops.{IsUnderway, underway_more}
+use Rattle.wh_level.proofs.Stops.{IsUnderway, underway_before, underway_more}
 use Rattle.wh_level.proofs.SearchEnds.{underway_start, underway_end}
 
 -- The first moves of a place were followed, so many of them, from where the search had come to it.
@@ -39,6 +41,16 @@ over_more tuples v t moves first s next j m to row within item leads e u =
           underway_more (u.over root at h w) m to within (λ d. sym (get_or_read moves j m within item d)) row.sorted
           ((row.exact m).0 (j, within, sym item)) leads;
     })
+
+-- A turned cut needn't be followed.
+pub over_turned : (tuples : List TupleData) (v : ℕ) (t : TupleData) (moves : List Move) (first s : SearchData) (j : ℕ) (m : Move)
+    → IsTuple t → AreLevelMoves t moves → j < length moves → m ≡ get_or moves j m → IsTurnedCut m.kind → IsGoingOver tuples v t moves first s j → IsGoingOver tuples v t moves first s (j + 1)
+over_turned tuples v t moves first s j m is row within item turned u = record {
+  cells = u.cells;
+  over = λ root at h w.
+      underway_before (u.over root at h w) m (λ d. sym (get_or_read moves j m within item d)) within row.sorted
+      (turned_acts_before t moves j m is row within item turned);
+}
 
 pub over_end : (tuples : List TupleData) (v : ℕ) (t : TupleData) (moves : List Move) (first s : SearchData) (j : ℕ) → AreLevelMoves t moves → length moves ≤ j → IsGoingOver tuples v t moves first s j → GoesOver tuples v first s
 over_end tuples v t moves first s j row all u = λ root at h w. underway_end (u.over root at h w) all (λ m l. (row.exact m).1 l)

@@ -15,7 +15,7 @@ use Rattle.wh_words.specs.Levels.{IsLevelMove}
 use Rattle.wh_level.specs.Searches.{SearchData, follow, Stop, Earlier, HasParent, IsStop, IsFollowed, AllEarlier, HasStart, IsKnown}
 use Rattle.wh_level.specs.Searches.HasParent.{none, some}
 use Rattle.wh_level.proofs.Cells.{slice_get_set_same, slice_get_set_other, count_unseen_set}
-use Rattle.wh_level.proofs.Shortlex.{no_later_itself, no_later_when_earlier, earlier_from, earlier_pushed, earlier_by_move, earlier_when_shorter}
+use Rattle.wh_level.proofs.Shortlex.{no_later_itself, no_later_from, no_later_when_earlier, earlier_from, earlier_pushed, earlier_by_move, earlier_when_shorter}
 use Rattle.wh_level.proofs.Walks.{reaches_pushed}
 
 -- Some of the moves of a stop were followed, the first so many of them.
@@ -180,6 +180,47 @@ below_cases i j h = elim (cases_lt i j) [
   | inr l ↦ inr (omega (arith, h, l))
 ]
 
+-- The move was followed before.
+module _ {root : TupleData} {tuples : List TupleData} {s : SearchData} {at place : ℕ} {t : TupleData} {moves : List Move} {j : ℕ} (u : IsUnderway root tuples s at place t moves j)
+    (m : Move) (item : (d : Move) → get_or moves j d ≡ m) where
+  underway_followed : IsFollowed u.stops u.current m → IsUnderway root tuples s at place t moves (j + 1)
+  underway_followed followed = record {
+    stops = u.stops;
+    known = u.known;
+    done = u.done;
+    current = u.current;
+    within = u.within;
+    here = u.here;
+    stands = u.stands;
+    tuple = u.tuple;
+    followed = λ i d h l. elim (below_cases i j h) [
+      | inl b ↦ u.followed i d b l
+      | inr e ↦ subst (λ (n : Move). IsFollowed u.stops u.current n) (sym (ap (λ k. get_or moves k d) e ∙ item d)) followed
+    ];
+    next = λ i d h l. u.next i d (omega (arith, h)) l;
+    later = u.later;
+  }
+
+  -- It leaves the tuple as it is, or acts as a move before it.
+  pub underway_before : j < length moves → IsStrictlySortedBy move_cmp moves → (act t m ≡ t) ⊎ ((k : ℕ) × (k < j) × ((d : Move) → act t (get_or moves k d) ≡ act t m)) →
+      IsUnderway root tuples s at place t moves (j + 1)
+  underway_before within sorted (inl same) = underway_followed (record {
+    stop = u.current;
+    found = (at, u.within, u.here u.current);
+    is = u.tuple ∙ sym same ∙ ap (λ (x : TupleData). act x m) (sym u.tuple);
+    early = no_later_when_earlier (earlier_when_shorter u.current.path (u.current.path ++ m ∷ []) (omega (arith, length_push u.current.path m)));
+  })
+  underway_before within sorted (inr before) =
+      let n : Move = get_or moves before.0 m in
+      let f : IsFollowed u.stops u.current n = u.followed before.0 m before.1 (omega (arith, before.1, within)) in
+      underway_followed (record {
+        stop = f.stop;
+        found = f.found;
+        is = f.is ∙ ap (λ (x : TupleData). act x n) u.tuple ∙ before.2 m ∙ ap (λ (x : TupleData). act x m) (sym u.tuple);
+        early = no_later_from f.early
+            (no_later_when_earlier (earlier_by_move u.current.path n m (subst (λ (x : Move). move_cmp n x ≡ Less) (item m) (Less-from_sorted move_cmp moves before.0 j m sorted before.1 within))));
+      })
+
 module _ {root : TupleData} {tuples : List TupleData} {s : SearchData} {at place : ℕ} {t : TupleData} {moves : List Move} {j : ℕ} (u : IsUnderway root tuples s at place t moves j)
     (m : Move) (to : ℕ) (within : j < length moves) (item : (d : Move) → get_or moves j d ≡ m) (sorted : IsStrictlySortedBy move_cmp moves)
     (level : IsLevelMove t m) (leads : slice_get tuples to ≡ Some (act t m)) where
@@ -196,22 +237,7 @@ module _ {root : TupleData} {tuples : List TupleData} {s : SearchData} {at place
   ahead = subst (λ (n : Move). AllEarlier stops (u.current.path ++ n ∷ [])) (item m) (u.next j m (omega arith) within)
 
   underway_seen : slice_get s.seen to ≡ Some true → IsUnderway root tuples s at place t moves (j + 1)
-  underway_seen seen = record {
-    stops = stops;
-    known = u.known;
-    done = u.done;
-    current = u.current;
-    within = u.within;
-    here = u.here;
-    stands = u.stands;
-    tuple = u.tuple;
-    followed = λ i d h l. elim (below_cases i j h) [
-      | inl b ↦ u.followed i d b l
-      | inr e ↦ subst (λ (n : Move). IsFollowed stops u.current n) (sym (ap (λ k. get_or moves k d) e ∙ item d)) (seen_followed u.known u.current at m to u.within u.here level_here leads_here ahead seen)
-    ];
-    next = λ i d h l. u.next i d (omega (arith, h)) l;
-    later = u.later;
-  }
+  underway_seen seen = underway_followed u m item (seen_followed u.known u.current at m to u.within u.here level_here leads_here ahead seen)
 
   module _ (new : slice_get s.seen to ≡ Some false) where
     abbrev grown : List Stop

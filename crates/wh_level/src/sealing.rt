@@ -2,6 +2,7 @@
 ghost use Rattle.std.specs.Prelude.{◌≡◌, ◌≤◌, map, IfOk};
 ghost use Rattle.std.specs.List.{All};
 ghost use Rattle.wh_words.specs.Limits.{most_level_rank};
+ghost use Rattle.wh_words.specs.Tuples.{IsTuple};
 ghost use Rattle.wh_words.specs.Levels.{InLevel, IsLevel};
 ghost use Rattle.wh_expand.specs.Rows.{IsRow, row_tuple};
 ghost use Rattle.wh_level.specs.Sealings.{Seals};
@@ -29,7 +30,8 @@ pub enum Sealed {
 
 /// A tuple without words, with rooms for every tuple of the level of a root.
 fn blank(alloc: Global, root: &Tuple) -> Result<Tuple, OutOfMemory>
-    ensures { IfOk result (λ t. HasRoomsFor t root.now.plain) }
+    ensures rooms { IfOk result (λ t. HasRoomsFor t root.now.plain) }
+    ensures root { IsTuple root.now.plain }
 {
     Tuple::with_room(alloc, root.rank(), root.count(), root.length() as usize)
 }
@@ -63,6 +65,7 @@ fn seal_placed(
     places: &TupleSet,
     image: &mut Tuple,
 ) -> Result<Sealed, OutOfMemory>
+    requires root { IsTuple root.now.plain }
     requires rank { root.now.plain.rank ≤ most_level_rank }
     requires rows { All IsRow rows.now }
     requires placing { IsPlacing (map row_tuple rows.now) places.now }

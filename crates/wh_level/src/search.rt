@@ -3,7 +3,7 @@
 ghost use Rattle.std.specs.Prelude.{◌≡◌, ◌<◌, length, map, slice_get, MatchOption, IfOk, OnOk};
 ghost use Rattle.std.specs.List.{All};
 ghost use Rattle.std.specs.Bool.{MatchBool};
-ghost use Rattle.wh_words.specs.Tuples.{TupleData};
+ghost use Rattle.wh_words.specs.Tuples.{TupleData, IsTuple};
 ghost use Rattle.wh_words.specs.Levels.{InLevel, IsLevel};
 ghost use Rattle.wh_expand.specs.Rows.{IsRow, row_tuple};
 ghost use Rattle.wh_level.specs.Trees.{AreParents};
@@ -15,7 +15,7 @@ ghost use Rattle.wh_level.specs.Searches.{HasCells, GoesOver, IsAbsentImage};
 use crate::placing::{image_place, row_numbers};
 use std::alloc::Global;
 use std::marker::Model;
-use wh_expand::Row;
+use wh_expand::{Row, is_turned_cut};
 use wh_moves::Move;
 use wh_sets::TupleSet;
 use wh_words::{OutOfMemory, Tuple};
@@ -74,7 +74,8 @@ impl Search {
         Ok(())
     }
 
-    /// Follows all moves of the row of a place. False comes where an image has no place.
+    /// Follows all moves of the row of a place, turned cuts by the moves before them. False comes where an image has no
+    /// place.
     fn expand(
         &mut self,
         places: &TupleSet,
@@ -82,6 +83,7 @@ impl Search {
         row: &Row,
         image: &mut Tuple,
     ) -> Result<bool, OutOfMemory>
+        requires tuple { IsTuple (row_tuple row.now) }
         requires row { IsRow row.now }
         requires stands { slice_get places.now from ≡ Some (row_tuple row.now) }
         requires rooms { HasRoomsFor image.old (row_tuple row.now) }
@@ -91,6 +93,9 @@ impl Search {
         ensures rooms { KeepsRooms image.old image.new }
     {
         for m in row.moves.items() {
+            if is_turned_cut(m) {
+                continue;
+            }
             match image_place(places, &row.tuple, m, image) {
                 None => return Ok(false),
                 Some(to) => self.follow(from, *m, to)?,
@@ -116,6 +121,7 @@ pub(crate) fn first_parents(
     places: &TupleSet,
     image: &mut Tuple,
 ) -> Result<Option<Vec<Option<(usize, Move)>>>, OutOfMemory>
+    requires root { IsTuple root.now.plain }
     requires rows { All IsRow rows.now }
     requires placing { IsPlacing (map row_tuple rows.now) places.now }
     requires within { All (InLevel root.now.plain) places.now }

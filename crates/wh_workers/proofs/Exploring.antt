@@ -7,7 +7,7 @@ use Rattle.std.proofs.lemmas.List.{length-append, map-append, take_more, take-ap
 use Rattle.std.proofs.lemmas.List.Elements.{All-nil, All-push, All-append, All-weaker, Contains-append_left, Contains-append_cases}
 use Rattle.std.proofs.lemmas.Option.{slice_get_within, get_or_from_slice_get}
 use Rattle.wh_words.specs.Limits.{most_level_rank}
-use Rattle.wh_words.specs.Tuples.{TupleData, Tuple, tuple_length, tuple_cmp}
+use Rattle.wh_words.specs.Tuples.{TupleData, Tuple, IsTuple, tuple_length, tuple_cmp}
 use Rattle.wh_words.specs.Moves.{Move}
 use Rattle.wh_words.specs.Action.{act}
 use Rattle.wh_words.specs.Levels.{IsLevelMove, InLevel}
@@ -15,7 +15,7 @@ use Rattle.wh_words.specs.Levels.Reaches.{here}
 use Rattle.wh_expand.specs.Rows.{IsRow, AreLevelMoves, row_tuple}
 use Rattle.wh_expand.specs.declared.row.Row.{Row}
 use Rattle.wh_level.specs.Sealings.{IsImage}
-use Rattle.wh_level.proofs.Walks.{in_level_pushed, reached_rank, reached_length, reached_words}
+use Rattle.wh_level.proofs.Walks.{in_level_pushed, reached_tuple, reached_rank, reached_length, reached_words}
 use Rattle.wh_words.proofs.Elements.{contains_one}
 use Rattle.wh_sets.specs.TupleSets.{IsAdded}
 use Rattle.wh_workers.specs.Explorations.{HasRoomFor, HasMetImages, IsWhole}
@@ -106,6 +106,12 @@ exploring_end root limit known rows distinct h all =
     }
 
 -- ---- what the calls of the loop ask
+pub next_listed : (known : List TupleData) (rows : List Row) (t : TupleData) → slice_get known (length rows) ≡ Some t → Contains known t
+next_listed known rows t e = (length rows, slice_get_within known (length rows) t e, get_or_from_slice_get known (length rows) t t e)
+
+pub next_is_tuple : (root : TupleData) (limit : ℕ) (known : List TupleData) (rows : List Row) (t : TupleData) → IsTuple root → IsExploring root limit known rows → slice_get known (length rows) ≡ Some t → IsTuple t
+next_is_tuple root limit known rows t is h e = reached_tuple is (next_known root limit known rows t h e).1
+
 pub next_rank : (root : TupleData) (limit : ℕ) (known : List TupleData) (rows : List Row) (t : TupleData) → root.rank ≤ most_level_rank → IsExploring root limit known rows → slice_get known (length rows) ≡ Some t → t.rank ≤ most_level_rank
 next_rank root limit known rows t low h e = let reached = next_known root limit known rows t h e in omega (arith, low, reached_rank reached.1)
 

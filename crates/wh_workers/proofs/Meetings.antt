@@ -1,17 +1,19 @@
 -- Meeting the images of a tuple, for `meet_images`.
-use Rattle.std.proofs.Common.{◌≡◌, ℕ, ◌+◌, ◌<◌, ◌≤◌, List, [], ◌∷◌, ◌++◌, length, get_or, refl, sym, ap, ◌∙◌, subst, arith, inl, inr, ⊎_elim}
+use Rattle.std.proofs.Common.{◌≡◌, ◌⊎◌, ℕ, ◌+◌, ◌<◌, ◌≤◌, List, [], ◌∷◌, ◌++◌, length, get_or, refl, sym, ap, ◌∙◌, subst, arith, inl, inr, ⊎_elim}
 use Rattle.std.proofs.lemmas.Bool.{cases_order}
 use Rattle.std.proofs.lemmas.List.{get_or_default}
 use Rattle.std.specs.Prelude.{Contains}
 use Rattle.std.specs.List.{All}
 use Rattle.std.proofs.lemmas.List.{append-nil, append_assoc}
-use Rattle.std.proofs.lemmas.List.Elements.{All-nil, All-push}
-use Rattle.wh_words.specs.Tuples.{TupleData, Tuple, tuple_length}
+use Rattle.std.proofs.lemmas.List.Elements.{All-nil, All-push, Contains-append_left}
+use Rattle.wh_words.specs.Tuples.{TupleData, Tuple, IsTuple, tuple_length}
 use Rattle.wh_words.specs.Moves.{Move}
 use Rattle.wh_words.specs.Action.{act}
 use Rattle.wh_words.specs.Levels.{IsLevelMove}
 use Rattle.wh_moves.specs.Acts.{Fits}
 use Rattle.wh_expand.specs.Rows.{IsRow, row_tuple}
+use Rattle.wh_expand.specs.TurnedCuts.{IsTurnedCut}
+use Rattle.wh_expand.proofs.TurnedMoves.{turned_acts_before}
 use Rattle.wh_expand.specs.declared.row.Row.{Row}
 use Rattle.wh_level.specs.Sealings.{IsImage}
 use Rattle.wh_sets.specs.TupleSets.{IsAdded}
@@ -62,6 +64,18 @@ meeting_more r old now new i m is l e h (inr added) =
       images = All-push (IsImage (row_tuple r ∷ [])) h.more t h.images (record { from = row_tuple r; via = m; listed = (0, omega arith, refl); moves = row_move r i m is l e; is = refl });
       met = met_more r now new i m l e (inr added) h.met;
     }
+
+-- A turned cut needn't be made.
+pub meeting_turned : (r : Row) (old now : List TupleData) (i : ℕ) (m : Move) → IsTuple (row_tuple r) → IsRow r → i < length r.moves → m ≡ get_or r.moves i m → IsTurnedCut m.kind → Contains old (row_tuple r) → IsMeeting r old i now →
+    IsMeeting r old (i + 1) now
+meeting_turned r old now i m tuple is l e turned own h =
+    record { more = h.more; grown = h.grown; images = h.images; met = met_more r now now i m l e (inl (there (turned_acts_before (row_tuple r) r.moves i m tuple is l e turned), refl)) h.met }
+  where
+    there : (act (row_tuple r) m ≡ row_tuple r) ⊎ ((k : ℕ) × (k < i) × ((d : Move) → act (row_tuple r) (get_or r.moves k d) ≡ act (row_tuple r) m)) → Contains now (act (row_tuple r) m)
+    there (inl same) = subst (Contains now) (sym same) (subst (λ ts. Contains ts (row_tuple r)) (sym h.grown) (Contains-append_left old h.more (row_tuple r) own))
+    there (inr before) =
+        let n : Move = get_or r.moves before.0 m in
+        subst (Contains now) (before.2 m) (h.met before.0 n before.1 (get_or_default r.moves before.0 m n (omega (arith, before.1, l))))
 
 -- More tuples than the limit are known after the next image.
 pub meeting_past : (r : Row) (old now new : List TupleData) (i limit : ℕ) (m : Move) → IsRow r → i < length r.moves → m ≡ get_or r.moves i m → IsMeeting r old i now → IsAdded now (act (row_tuple r) m) new → limit < length new →

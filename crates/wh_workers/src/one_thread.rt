@@ -1,17 +1,17 @@
 //! Exploring a level on one thread.
-ghost use Rattle.std.specs.Prelude.{◌≡◌, ℕ, ◌+◌, ◌<◌, ◌≤◌, [], ◌∷◌, ◌++◌, length, map, IfOk, OnOk};
+ghost use Rattle.std.specs.Prelude.{◌≡◌, ℕ, ◌+◌, ◌<◌, ◌≤◌, [], ◌∷◌, ◌++◌, length, map, Contains, IfOk, OnOk};
 ghost use Rattle.std.specs.List.{All, IsDistinct};
 ghost use Rattle.std.specs.Bool.{MatchBool};
 ghost use Rattle.std.specs.Ordering.{eq_by_cmp};
 ghost use Rattle.wh_words.specs.Limits.{most_level_rank};
-ghost use Rattle.wh_words.specs.Tuples.{tuple_cmp};
+ghost use Rattle.wh_words.specs.Tuples.{IsTuple, tuple_cmp};
 ghost use Rattle.wh_expand.specs.Rows.{IsRow, row_tuple};
 ghost use Rattle.wh_workers.specs.Explorations.{Explores, Expands, CountsTuples, CountsRows, HasRoomFor, HasMetImages, IsWhole};
 
 use crate::explored::Explored;
 use std::alloc::Global;
 use std::sync::ledger::Ledger;
-use wh_expand::{Row, level_moves};
+use wh_expand::{Row, is_turned_cut, level_moves};
 use wh_level::{Sealed, seal};
 use wh_moves::act_into;
 use wh_sets::TupleSet;
@@ -25,8 +25,9 @@ fn exceeds(known: &TupleSet, limit: u32) -> bool
     known.len() > limit as usize
 }
 
-/// Meets the images of a tuple under its level moves, unless more tuples than the limit are known before the last.
-#[tactic(auto, using(crate::proofs::Meetings::move_rank, crate::proofs::Meetings::move_fits, crate::proofs::Meetings::meeting_start, crate::proofs::Meetings::meeting_more, crate::proofs::Meetings::meeting_past, crate::proofs::Meetings::meeting_end))]
+/// Meets the images of a known tuple under its level moves, unless more tuples than the limit are known before the last.
+/// Turned cuts aren't made, since their images are known by then.
+#[tactic(auto, using(crate::proofs::Meetings::move_rank, crate::proofs::Meetings::move_fits, crate::proofs::Meetings::meeting_start, crate::proofs::Meetings::meeting_more, crate::proofs::Meetings::meeting_turned, crate::proofs::Meetings::meeting_past, crate::proofs::Meetings::meeting_end))]
 fn meet_images(
     alloc: Global,
     row: &Row,
@@ -34,12 +35,17 @@ fn meet_images(
     known: &mut TupleSet,
     scratch: &mut Tuple,
 ) -> Result<(), OutOfMemory>
+    requires tuple { IsTuple (row_tuple row.now) }
+    requires known { Contains known.old (row_tuple row.now) }
     requires row { IsRow row.now }
     requires room { HasRoomFor scratch.old (row_tuple row.now) }
     ensures met { OnOk result (HasMetImages (row_tuple row.now) limit known.old known.new) }
     ensures room { HasRoomFor scratch.new (row_tuple row.now) }
 {
     for m in row.moves.items() {
+        if is_turned_cut(m) {
+            continue;
+        }
         act_into(&row.tuple, m, scratch);
         known.add(alloc, scratch)?;
         if exceeds(known, limit) {
@@ -58,6 +64,8 @@ fn keep_row(
     rows: &mut Vec<Row>,
     scratch: &mut Tuple,
 ) -> Result<(), OutOfMemory>
+    requires tuple { IsTuple (row_tuple row) }
+    requires known { Contains known.old (row_tuple row) }
     requires row { IsRow row }
     requires room { HasRoomFor scratch.old (row_tuple row) }
     ensures met { OnOk result (HasMetImages (row_tuple row) limit known.old known.new) }
@@ -95,6 +103,7 @@ fn expand_known<L: Ledger>(
     scratch: &mut Tuple,
     steps: &mut Steps<L>,
 ) -> Result<bool, OutOfMemory>
+    requires root { IsTuple root.now.plain }
     requires rank { root.now.plain.rank ≤ most_level_rank }
     requires none_known { known.old ≡ [] }
     requires none_expanded { rows.old.items ≡ [] }

@@ -1,6 +1,6 @@
 use Rattle.std.proofs.Common.{◌≡◌, ◌<◌, ◌≤◌, ◌∙◌, Some, slice_get, length, sym, ap, subst, arith, map}
 use Rattle.std.proofs.lemmas.Option.{slice_get_within}
-use Rattle.wh_words.specs.Tuples.{TupleData}
+use Rattle.wh_words.specs.Tuples.{TupleData, IsTuple}
 use Rattle.wh_expand.specs.Rows.{row_tuple}
 use Rattle.wh_level.specs.PlacedTuples.{HasRoomsFor}
 use Rattle.wh_level.specs.Searches.{GoesOver, IsAbsentImage}
@@ -8,6 +8,7 @@ use Rattle.wh_level.specs.Trees.{AreParents}
 use Rattle.wh_level.proofs.FirstParents.{past_from_none, started_at, next_within, next_tuple, cells_of, row_at, row_within, row_tuple_is, row_good, missed_root, missed_image, went_over}
 use Rattle.wh_level.proofs.Rooms.{rooms_itself, rooms_then, rooms_kept, rooms_in_level}
 use Rattle.wh_level.proofs.SearchEnds.{level_whole, parents_whole}
+use Rattle.wh_level.proofs.Walks.{reached_tuple}
 use Rattle.wh_level.proofs.search.first_parents.Goals as goal
 
 pub returns-in_default-clause-parents : goal.returns-in_default-clause-parents
@@ -93,3 +94,9 @@ returns-clause-parents c =
       level_whole c.loop-from.invariant.searched all c.requires.placing.sorted c.requires.within,
       subst (AreParents c.args.root.now.plain c.args.places.now) (sym c.into_parents.ensures) (parents_whole c.loop-from.invariant.searched all c.requires.placing.sorted c.requires.within),
     )
+
+pub expand-requires-clause-tuple : goal.expand-requires-clause-tuple
+expand-requires-clause-tuple c =
+    let next = next_tuple c.loop-from.invariant.searched c.in-Some-found.from (sym c.found.ensures ∙ c.in-Some-found.is) in
+    let at : slice_get (map row_tuple c.args.rows.now) c.index-number.result.now ≡ Some next.0 = row_at (map row_tuple c.args.rows.now) c.args.places.now c.in_ok-numbers.numbers.items c.in-Some-found.from c.index-number.result.now next.0 c.in_ok-numbers.ensures next.1 c.index-number.ensures in
+    subst IsTuple (sym (row_tuple_is c.args.rows.now c.index-number.result.now next.0 c.index-rows-number.result at c.index-rows-number.is)) (reached_tuple c.requires.root next.2.1)

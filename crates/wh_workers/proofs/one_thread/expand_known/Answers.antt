@@ -1,7 +1,7 @@
 use Rattle.std.proofs.Common.{rules, ◌≡◌, length, ◌∷◌, [], Some, slice_get, sym, ap, ◌∙◌, subst, arith}
 use Rattle.std.proofs.lemmas.List.{length-append}
 use Rattle.wh_expand.specs.Rows.{row_tuple}
-use Rattle.wh_workers.proofs.Exploring.{IsExploring, exploring_start, exploring_more, exploring_end, next_rank, next_room}
+use Rattle.wh_workers.proofs.Exploring.{IsExploring, exploring_start, exploring_more, exploring_end, next_listed, next_is_tuple, next_rank, next_room}
 use Rattle.wh_workers.proofs.one_thread.expand_known.Goals as goal
 
 pub expand-init : goal.expand-init
@@ -20,6 +20,18 @@ pub keep_row-requires-clause-room : goal.keep_row-requires-clause-room
 keep_row-requires-clause-room g c =
     let next : slice_get c.expand.known (length c.expand.rows.items) ≡ Some c.tuple.result.now.plain = ap (slice_get c.expand.known) (search rules) ∙ c.tuple.ensures in
     (next_room c.args.root.now.plain c.args.limit c.expand.known c.expand.rows.items c.tuple.result.now.plain c.in_ok-row.row c.expand.scratch c.expand.invariant.0 next (ap (λ t. t.plain) c.in_ok-row.ensures.tuple)).0 c.expand.invariant.1
+
+pub keep_row-requires-clause-known : goal.keep_row-requires-clause-known
+keep_row-requires-clause-known g c =
+    let next : slice_get c.expand.known (length c.expand.rows.items) ≡ Some c.tuple.result.now.plain = ap (slice_get c.expand.known) (search rules) ∙ c.tuple.ensures in
+    let same : row_tuple c.in_ok-row.row ≡ c.tuple.result.now.plain = ap (λ t. t.plain) c.in_ok-row.ensures.tuple in
+    next_listed c.expand.known c.expand.rows.items (row_tuple c.in_ok-row.row) (next ∙ ap Some (sym same))
+
+pub keep_row-requires-clause-tuple : goal.keep_row-requires-clause-tuple
+keep_row-requires-clause-tuple g c =
+    let next : slice_get c.expand.known (length c.expand.rows.items) ≡ Some c.tuple.result.now.plain = ap (slice_get c.expand.known) (search rules) ∙ c.tuple.ensures in
+    let same : row_tuple c.in_ok-row.row ≡ c.tuple.result.now.plain = ap (λ t. t.plain) c.in_ok-row.ensures.tuple in
+    next_is_tuple c.args.root.now.plain c.args.limit c.expand.known c.expand.rows.items (row_tuple c.in_ok-row.row) c.requires.root c.expand.invariant.0 (next ∙ ap Some (sym same))
 
 pub expand-preserved : goal.expand-preserved
 expand-preserved g c =

@@ -3,7 +3,7 @@ use Rattle.std.proofs.lemmas.Option.{slice_get_within}
 use Rattle.wh_words.specs.Action.{act}
 use Rattle.wh_words.specs.Levels.{IsLevelMove}
 use Rattle.wh_expand.specs.Rows.{row_tuple}
-use Rattle.wh_level.proofs.Expanding.{over_start, over_more, over_end}
+use Rattle.wh_level.proofs.Expanding.{over_start, over_more, over_turned, over_end}
 use Rattle.wh_level.proofs.Rooms.{rooms_itself, rooms_of_image, rooms_kept, item_of, level_at}
 use Rattle.wh_level.proofs.search.Search.expand.Goals as goal
 
@@ -35,6 +35,14 @@ follow-requires-clause-parents c =
 pub follow-requires-clause-seen : goal.follow-requires-clause-seen
 follow-requires-clause-seen c =
     omega (arith, c.loop-m.invariant.over.cells.seen, slice_get_within c.args.places.now c.in-Some.to (act (row_tuple c.args.row.now) c.m-item.result) c.in-Some.ensures.place)
+
+pub loop-m-preserved-then-is_turned_cut : goal.loop-m-preserved-then-is_turned_cut
+loop-m-preserved-then-is_turned_cut c = record {
+  rooms = c.loop-m.invariant.rooms;
+  over = over_turned c.args.places.now c.args.from (row_tuple c.args.row.now) c.args.row.now.moves c.args.self.now c.loop-m.self c.loop-m.m-index c.m-item.result
+      c.requires.tuple c.requires.row (omega (arith, ap length c.items-m-items.ensures)) (item_of c.items-m-items.result.now c.args.row.now.moves c.loop-m.m-index c.m-item.result c.items-m-items.ensures c.m-item.is)
+      (c.is_turned_cut.ensures.0 c.if-is_turned_cut.true) c.loop-m.invariant.over;
+}
 
 pub loop-m-preserved : goal.loop-m-preserved
 loop-m-preserved c = record {
