@@ -22,13 +22,6 @@ pub back_of_rank : (n : ℕ) (u v : List ℕ) → IsOfRank n (u ++ v) → IsOfRa
 back_of_rank n [] v h = h
 back_of_rank n (x ∷ u) v h = back_of_rank n u v (All-tail (λ y. y < 2 * n) x (u ++ v) h)
 
-pub inverse_of-of_rank : (n : ℕ) (w : List ℕ) → IsOfRank n w → IsOfRank n (inverse_of w)
-unfolding inverse_of
-inverse_of-of_rank n [] h = h
-inverse_of-of_rank n (x ∷ w) h =
-    All-append (λ y. y < 2 * n) (inverse_of w) (inverse_letter x ∷ []) (inverse_of-of_rank n w (All-tail (λ y. y < 2 * n) x w h))
-    (All-cons (λ y. y < 2 * n) (inverse_letter x) [] (inverse_below n x (All-head (λ y. y < 2 * n) x w h)) (All-nil (λ y. y < 2 * n)))
-
 -- The images of the letters of a rank are of the rank.
 abbrev pub Keeps : ℕ → (ℕ → List ℕ) → Type 0
 Keeps n f = (x : ℕ) → x < 2 * n → IsOfRank n (f x)

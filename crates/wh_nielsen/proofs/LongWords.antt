@@ -9,8 +9,9 @@ use Rattle.wh_words.proofs.FreeReduction.{free_reduction-same, free_reduction-re
 use Rattle.wh_words.proofs.ImageLetters.{inverse_below}
 use Rattle.wh_peak.proofs.FreeWords.{run, run-append, Same, inv_ne, inverse_of, inverse_of-append, inverse_of-inverse_of}
 use Rattle.wh_peak.proofs.Substitutions.{Substitution}
-use Rattle.wh_nielsen.proofs.CommonFronts.{reduces_to, same_reduced, back-reduced, Longer, longer, inverse_of-length, Differ, Differ-turn, meet, common, common-turn, Fork, fork, cancel_front}
+use Rattle.wh_nielsen.proofs.CommonFronts.{reduces_to, same_reduced, Longer, longer, inverse_of-length, Differ, Differ-turn, meet, common, common-turn, Fork, fork, cancel_front}
 use Rattle.wh_nielsen.proofs.Bases.{Basis, turned}
+use Rattle.wh_words.proofs.Turning.{back-reduced}
 
 -- Between two neighbours, less than a whole word cancels.
 abbrev pub IsNielsen : ℕ → Substitution → Type 0

@@ -10,10 +10,12 @@ use Rattle.wh_words.proofs.ImageLetters.{inverse_below}
 use Rattle.std.proofs.lemmas.List.Elements.{All-append}
 use Rattle.wh_peak.proofs.FreeWords.{run, inverse_of, inverse_of-append, inverse_of-inverse_of, inverse_of-right}
 use Rattle.wh_peak.proofs.Substitutions.{Substitution}
-use Rattle.wh_nielsen.proofs.CommonFronts.{unique, reduces_to, back-reduced, SameParts, same_parts, inverse_of-length, Differ-turn, meet, common, common-turn, Fork, fork, cancel_front, square}
+use Rattle.wh_nielsen.proofs.CommonFronts.{unique, reduces_to, SameParts, same_parts, inverse_of-length, Differ-turn, meet, common, common-turn, Fork, fork, cancel_front, square}
 use Rattle.wh_nielsen.proofs.WordNumbers.{num, num-one, weight, weight-inverse, weight-shorter, weight-front}
-use Rattle.wh_nielsen.proofs.Bases.{Basis, turned, something, front_of_rank, back_of_rank, inverse_of-of_rank}
+use Rattle.wh_nielsen.proofs.Bases.{Basis, turned, something, front_of_rank, back_of_rank}
 use Rattle.wh_nielsen.proofs.LongWords.{IsNielsen}
+use Rattle.wh_words.proofs.Turning.{back-reduced}
+use Rattle.wh_peak.proofs.AlikeMoves.{inverse_of-of_rank}
 
 -- No product of a word with one of another generator is lighter than the word.
 abbrev pub IsLightest : ℕ → Substitution → Type 0

@@ -12,16 +12,17 @@ use Rattle.wh_peak.specs.Automorphisms.{substitute_all, AreAlike}
 use Rattle.wh_peak.specs.Laws.{AlikeIsReflexive, AlikeIsSymmetric, AlikeIsTransitive, AlikeBetweenLists, AlikeListsActAlike, OneCompositeActsAlike, InverseListsCancel}
 use Rattle.wh_peak.proofs.FreeWords.{ReducedWord, run, run-append, Same, inverse_of, red_of, same_red, run-inverse_right, inverse_of-left, inverse_of-append, inverse_of-inverse_of, inverse_of-same}
 use Rattle.wh_peak.proofs.ActionFacts.{normal, normal-same, normal-conjugate}
-use Rattle.wh_peak.proofs.KindLists.{substitute_kinds, map_rank, act_kinds-are}
+use Rattle.wh_peak.proofs.KindLists.{substitute_kinds, map_rank, act_kinds-are, one_letter}
 use Rattle.wh_peak.proofs.MovesOfRank.{kinds, are_kinds, acted, substituted, cyclic_words, words_of_rank}
 use Rattle.wh_peak.proofs.ConjugatingWords.{inverse_word-is, IsConjugate, three_parts, conjugate_back}
-use Rattle.wh_peak.proofs.SameComposites.{substitute-append, substitute-then, substitute-nothing, substitute-of_rank, substitute-same, substitute-inverse_of, AgreeOn, one_letter, agree-refl, list-undone, list-redone, composite-same, even_or_odd, same-composite}
+use Rattle.wh_peak.proofs.SameComposites.{substitute-append, substitute-then, substitute-nothing, substitute-of_rank, substitute-same, substitute-inverse_of, AgreeOn, agree-refl, list-undone, list-redone, composite-same, same-composite}
+use Rattle.wh_graph.proofs.ComplementCuts.{generator_of}
 
-inverse_of_rank_word : (n : ℕ) (w : List ℕ) → IsOfRank n w → IsOfRank n (inverse_of w)
+pub inverse_of-of_rank : (n : ℕ) (w : List ℕ) → IsOfRank n w → IsOfRank n (inverse_of w)
 unfolding inverse_of
-inverse_of_rank_word n [] h = All-nil (λ y. y < 2 * n)
-inverse_of_rank_word n (x ∷ w) h =
-    All-append (λ y. y < 2 * n) (inverse_of w) (inverse_letter x ∷ []) (inverse_of_rank_word n w (All-tail (λ y. y < 2 * n) x w h))
+inverse_of-of_rank n [] h = All-nil (λ y. y < 2 * n)
+inverse_of-of_rank n (x ∷ w) h =
+    All-append (λ y. y < 2 * n) (inverse_of w) (inverse_letter x ∷ []) (inverse_of-of_rank n w (All-tail (λ y. y < 2 * n) x w h))
     (one_letter n (inverse_letter x) (inverse_below n x (All-head (λ y. y < 2 * n) x w h)))
 
 -- ---- conjugate images of all letters
@@ -46,7 +47,7 @@ conjugate-same n ms ns h = record { by = []; of_rank = All-nil (λ y. y < 2 * n)
 pub conjugate-sym : (n : ℕ) (ms ns : List Move) → IsConjugate n ms ns → IsConjugate n ns ms
 conjugate-sym n ms ns c = record {
   by = inverse_of c.by;
-  of_rank = inverse_of_rank_word n c.by c.of_rank;
+  of_rank = inverse_of-of_rank n c.by c.of_rank;
   at = λ x l. conjugate_back (substitute_all ns (x ∷ [])) (substitute_all ms (x ∷ [])) c.by (c.at x l);
 }
 
@@ -120,7 +121,7 @@ alike-conjugate n ms ns hm hn a = record { by = a.by; of_rank = a.of_rank; at = 
         (a.conjugates g l ∙ ap (λ v. free_reduction (v ++ (substitute_all ns (2 * g ∷ []) ++ a.by))) (inverse_word-is a.by))
 
     at : (x : ℕ) → x < 2 * n → Same (substitute_all ms (x ∷ [])) (inverse_of a.by ++ (substitute_all ns (x ∷ []) ++ a.by))
-    at x l = elim (even_or_odd x) [
+    at x l = elim (generator_of x) [
       | inl e ↦ subst (λ (y : ℕ). Same (substitute_all ms (y ∷ [])) (inverse_of a.by ++ (substitute_all ns (y ∷ []) ++ a.by))) (sym e) (even (x / 2) (omega arith))
       | inr e ↦ subst (λ (y : ℕ). Same (substitute_all ms (y ∷ [])) (inverse_of a.by ++ (substitute_all ns (y ∷ []) ++ a.by))) (sym e)
           (inverse_letter-conjugate n ms ns hm hn a.by (2 * (x / 2)) (even (x / 2) (omega arith)))

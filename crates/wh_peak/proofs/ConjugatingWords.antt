@@ -15,7 +15,7 @@ use Rattle.wh_peak.specs.Equivalence.{AreMovesOfRank}
 use Rattle.wh_peak.specs.Automorphisms.{substitute_all, AreAlike}
 use Rattle.wh_peak.proofs.FreeWords.{ReducedWord, cancel_left, run, run-append, Same, inverse_of, run-inverse_left, red_of, run-inverse_right}
 use Rattle.wh_peak.proofs.Substitutions.{Substitution, flat_map-same, substitute_by, substitute_by-inverse_of}
-use Rattle.wh_peak.proofs.KindLists.{substitute_kinds, substitute_kinds-of_rank}
+use Rattle.wh_peak.proofs.KindLists.{substitute_kinds, substitute_kinds-of_rank, one_letter}
 use Rattle.wh_peak.proofs.LoweredKinds.{AlikeOn}
 use Rattle.wh_peak.proofs.MovesOfRank.{kinds, are_kinds, substituted}
 
@@ -76,9 +76,6 @@ conjugate_of_rank n u v g hu hv h r =
     ∙ sym (run-append (inverse_of (flat_map (keeps n) g)) (v ++ flat_map (keeps n) g) r)))))
 
 -- ---- alike lists
-letter_alone : (n x : ℕ) → x < 2 * n → IsOfRank n (x ∷ [])
-letter_alone n x l = All-cons (λ y. y < 2 * n) x [] l (All-nil (λ y. y < 2 * n))
-
 pub alike_of : (n : ℕ) (ms ns : List Move) → AreMovesOfRank n ms → AreMovesOfRank n ns → AlikeOn n (kinds ms) (kinds ns) → AreAlike n ms ns
 alike_of n ms ns hm hn a =
     let by : List ℕ = flat_map (keeps n) a.by in
@@ -91,7 +88,7 @@ alike_of n ms ns hm hn a =
     at : (g : ℕ) → g < n → free_reduction (substitute_all ms (2 * g ∷ [])) ≡ free_reduction (inverse_word (flat_map (keeps n) a.by) ++ (substitute_all ns (2 * g ∷ []) ++ flat_map (keeps n) a.by))
     at g l =
         let low : 2 * g < 2 * n = omega arith in
-        let alone : IsOfRank n (2 * g ∷ []) = letter_alone n (2 * g) (omega arith) in
+        let alone : IsOfRank n (2 * g ∷ []) = one_letter n (2 * g) (omega arith) in
         ap free_reduction (substituted ms (2 * g ∷ []))
         ∙ (red_of (substitute_kinds (kinds ms) (2 * g ∷ [])) (inverse_of (flat_map (keeps n) a.by) ++ (substitute_kinds (kinds ns) (2 * g ∷ []) ++ flat_map (keeps n) a.by))
         (conjugate_of_rank n (substitute_kinds (kinds ms) (2 * g ∷ [])) (substitute_kinds (kinds ns) (2 * g ∷ [])) a.by
@@ -122,7 +119,7 @@ conjugate_of n ms ns hm hn a = record {
   at = λ x l r.
       ap (λ w. run w r) (substituted ms (x ∷ []))
       ∙ (conjugate_of_rank n (substitute_kinds (kinds ms) (x ∷ [])) (substitute_kinds (kinds ns) (x ∷ [])) (inverse_of a.by)
-      (substitute_kinds-of_rank n (kinds ms) (x ∷ []) (are_kinds n ms hm) (letter_alone n x l)) (substitute_kinds-of_rank n (kinds ns) (x ∷ []) (are_kinds n ns hn) (letter_alone n x l))
+      (substitute_kinds-of_rank n (kinds ms) (x ∷ []) (are_kinds n ms hm) (one_letter n x l)) (substitute_kinds-of_rank n (kinds ns) (x ∷ []) (are_kinds n ns hn) (one_letter n x l))
       (conjugate_back (substitute_kinds (kinds ms) (x ∷ [])) (substitute_kinds (kinds ns) (x ∷ [])) a.by (a.at x l)) r
       ∙ ap (λ w. run (inverse_of (flat_map (keeps n) (inverse_of a.by)) ++ (w ++ flat_map (keeps n) (inverse_of a.by))) r) (sym (substituted ns (x ∷ []))));
 }

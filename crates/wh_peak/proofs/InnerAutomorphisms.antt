@@ -24,9 +24,9 @@ use Rattle.wh_peak.proofs.InnerCuts.{inner}
 use Rattle.wh_peak.proofs.ActionFacts.{normal, normal-same, normal-conjugate}
 use Rattle.wh_peak.proofs.Actions.{AreCyclic}
 use Rattle.wh_peak.proofs.KindSteps.{image-mask}
-use Rattle.wh_peak.proofs.KindLists.{AreOfRank}
+use Rattle.wh_peak.proofs.KindLists.{AreOfRank, one_letter}
 use Rattle.wh_peak.proofs.MovesOfRank.{move_of_rank, none_of_rank, more_of_rank, cyclic_words, words_of_rank}
-use Rattle.wh_peak.proofs.SameComposites.{substitute-same, one_letter}
+use Rattle.wh_peak.proofs.SameComposites.{substitute-same}
 
 -- ---- one letter
 -- Every letter but the inverse of y.
