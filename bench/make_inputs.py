@@ -17,6 +17,11 @@ def text(word):
     return "".join(chr((65 if x % 2 else 97) + x // 2) for x in word) or "1"
 
 
+def spelled(word):
+    """The letters of a word."""
+    return [2 * (ord(letter.lower()) - ord("a")) + letter.isupper() for letter in word]
+
+
 def reduced(rng, rank, length):
     """A random freely reduced word."""
     word = []
@@ -71,6 +76,17 @@ def main():
     write("no_level_rank6", "A basis, and the same with one letter twice.", 6, basis, basis[:5] + basis[4:5])
     write("no_level_rank4", "Surface words of two surfaces.", 4, [surface(2)], [squares(4)])
     write("passed_rank6", "Surface words of two surfaces, whose level is larger than 10,000 tuples.", 6, [surface(3)], [squares(6)])
+    for rank in (3, 10, 26):
+        write(f"flat_rank{rank}", "64 random words of 64 letters.", rank, [reduced(rng, rank, 64) for _ in range(64)])
+    dense = [reduced(rng, 24, 100) for _ in range(15)]
+    write("chain_rank26", "2,500 steps of one letter each, beside 24 generators that no cut shortens.", 26, [*dense, [48] + [50] * 2500])
+    write("no_level_two_words_rank3", "Surface words of two surfaces, and the two exchanged.", 3, [spelled("abcABC"), squares(3)], [squares(3), spelled("abcABC")])
+    write("no_level_two_words_rank4", "A surface word and a curve, and the same with another curve.", 4, *[[spelled("aabbcdcd"), spelled(curve)] for curve in ("ab", "ac")])
+    write("no_level_letters_rank5", "A basis, and the same with one letter twice.", 5, *[[[x] for x in letters] for letters in ([0, 2, 4, 6, 8], [0, 2, 4, 6, 6])])
+    write("no_level_squares_rank5", "Three words, and the same with another letter.", 5, *[[squares(3), [6, 6], [x]] for x in (8, 0)])
+    write("no_level_planes_rank4", "Surface words of two surfaces, the larger level first.", 4, [squares(4)], [surface(2)])
+    write("no_level_periodic_rank4", "The same 30 times over: words of 240 letters.", 4, [squares(4) * 30], [surface(2) * 30])
+    write("no_level_long_rank6", "Two random words of 240 letters.", 6, *[[reduced(rng, 6, 240)] for _ in range(2)])
     write("words_rank3", "Twenty words of three letters and more, and the same with every generator inverted.", 3, *[[[x ^ flip for x in word] for word in ([0, 2, 4] * (k % 3 + 1) + [2 * (k % 3)] * (k % 4) for k in range(20))] for flip in (0, 1)])
 
 

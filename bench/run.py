@@ -24,7 +24,7 @@ def words_for(path):
     tuples = sum(line.startswith("tuple") for line in path.read_text().splitlines())
     if tuples == 1:
         return ["reduce"]
-    return ["decide", "--limit", "131072"] if "level_rank6" in path.stem else ["decide"]
+    return ["decide", "--limit", "131072"] if "level" in path.stem else ["decide"]
 
 
 def told(answer):
