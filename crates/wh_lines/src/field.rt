@@ -3,9 +3,8 @@ ghost use Rattle.std.specs.Prelude.{◌≡◌, ◌≤◌, ◌<◌, ◌+◌, ◌^
 ghost use Rattle.wh_lines.specs.Lines.{fields, are};
 
 use crate::line::{after, before};
-use std::alloc::Global;
+use std::alloc::{AllocError, Global};
 use std::marker::Model;
-use wh_words::OutOfMemory;
 
 /// A field of a line, and the column of its first byte.
 #[derive(Drop)]
@@ -55,7 +54,7 @@ fn push_field<'a>(
     found: &mut Vec<Field<'a>>,
     column: usize,
     rest: &'a [u8],
-) -> Result<usize, OutOfMemory>
+) -> Result<usize, AllocError>
     requires { column + length rest.now < 2 ^ 64 }
     ensures within { IfOk result (λ n. n ≤ length rest.now) }
     ensures more { IfOk result (λ n. found.new.items ++ fields (column + n + 1) (drop (n + 1) rest.now) ≡ found.old.items ++ fields column rest.now) }
@@ -72,7 +71,7 @@ fn push_field<'a>(
 
 /// The fields of a line, first to last.
 #[tactic(auto, using(crate::proofs::FieldCuts::fields_on, crate::proofs::FieldCuts::fields_end))]
-pub fn split(alloc: Global, line: &[u8]) -> Result<Vec<Field>, OutOfMemory>
+pub fn split(alloc: Global, line: &[u8]) -> Result<Vec<Field>, AllocError>
     ensures { IfOk result (λ v. v.items ≡ fields 1 line.now) }
 {
     let mut found = Vec::new(alloc);

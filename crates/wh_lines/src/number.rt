@@ -4,7 +4,7 @@ ghost use Rattle.wh_lines.specs.Numbers as spec;
 ghost use Rattle.wh_lines.specs.Rows.{row_text, number_row};
 
 use itoa::Buffer;
-use wh_words::OutOfMemory;
+use std::alloc::AllocError;
 
 /// A number with one more digit after its own. None where the byte is no digit, or the number is too large.
 fn next_digit(n: u64, byte: u8) -> Option<u64>
@@ -54,7 +54,7 @@ pub fn canonical_number(bytes: &[u8]) -> Option<u64>
 }
 
 /// Writes a number in decimal.
-pub fn print_number(out: &mut Vec<u8>, n: u64) -> Result<(), OutOfMemory>
+pub fn print_number(out: &mut Vec<u8>, n: u64) -> Result<(), AllocError>
     ensures { OnOk result (out.new.items ≡ out.old.items ++ decimal n) }
 {
     let mut buffer = Buffer::new();
@@ -63,7 +63,7 @@ pub fn print_number(out: &mut Vec<u8>, n: u64) -> Result<(), OutOfMemory>
 }
 
 /// Writes the line of a keyword and a number.
-pub fn print_number_row(out: &mut Vec<u8>, keyword: &[u8], n: u64) -> Result<(), OutOfMemory>
+pub fn print_number_row(out: &mut Vec<u8>, keyword: &[u8], n: u64) -> Result<(), AllocError>
     ensures { OnOk result (out.new.items ≡ out.old.items ++ row_text (number_row keyword.now n)) }
 {
     out.extend_from_slice(keyword)?;

@@ -4,7 +4,6 @@ ghost use Rattle.wh_lines.specs.declared.read_error.ReadError.TheVariants as err
 
 use std::alloc::{AllocError, AllocFailed};
 use thiserror::Error;
-use wh_words::OutOfMemory;
 
 /// The first rule that a text breaks, with its place, or want of memory. Lines, and columns in a line, are counted from
 /// 1. Each variant but the last is a refusal.
@@ -49,14 +48,6 @@ pub enum ReadError {
     /// There was no memory.
     #[error("out of memory")]
     OutOfMemory,
-}
-
-impl From<OutOfMemory> for ReadError {
-    ghost from_gives = { λ _ e. e ≡ errors.OutOfMemory };
-
-    fn from(_: OutOfMemory) -> ReadError {
-        ReadError::OutOfMemory
-    }
 }
 
 impl From<AllocError> for ReadError {

@@ -2,7 +2,7 @@
 ghost use Rattle.std.specs.Prelude.{◌≡◌, ◌≤◌, length, IsOk, IfOk};
 ghost use Rattle.wh_words.specs.CyclicWords.{cyclic_core, rotate, cyclic_word};
 
-use crate::error::OutOfMemory;
+use crate::OutOfMemory;
 use crate::inline::{INLINE, InlineLetters};
 use crate::letter::Letter;
 use crate::rotation::least_start;

@@ -2,7 +2,6 @@
 #![tactic(auto)]
 
 mod cyclic_word;
-mod error;
 mod inline;
 pub mod laws;
 mod letter;
@@ -19,7 +18,6 @@ mod tuple_order;
 mod word;
 
 pub use cyclic_word::CyclicWord;
-pub use error::OutOfMemory;
 pub use letter::Letter;
 pub use letter_set::LetterSet;
 pub use limits::{
@@ -28,6 +26,8 @@ pub use limits::{
 pub use list::List;
 pub use pass::cut_image_length;
 pub use rank::Rank;
+/// There was no memory.
+pub use std::alloc::AllocError as OutOfMemory;
 pub use steps::Steps;
 pub use tuple::Tuple;
 pub use word::Word;

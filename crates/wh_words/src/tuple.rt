@@ -10,8 +10,8 @@ ghost use Rattle.wh_words.specs.Moves.{IsCut, IsKind, cut_move};
 ghost use Rattle.wh_words.specs.Action.{act, substitute};
 ghost use Rattle.wh_words.specs.Moves.Kind.{swap, invert};
 
+use crate::OutOfMemory;
 use crate::cyclic_word::{CyclicWord, strip_ends};
-use crate::error::OutOfMemory;
 use crate::letter::Letter;
 use crate::letter_set::LetterSet;
 use crate::rank::Rank;

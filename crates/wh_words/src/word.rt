@@ -4,7 +4,7 @@ ghost use Rattle.smallvec.specs.SmallVec.{HasRoomFor};
 ghost use Rattle.wh_words.specs.Letters.{inverse_letter};
 ghost use Rattle.wh_words.specs.Words.{free_reduction, IsReduced};
 
-use crate::error::OutOfMemory;
+use crate::OutOfMemory;
 use crate::inline::{INLINE, InlineLetters};
 use crate::letter::Letter;
 use smallvec::SmallVec;
