@@ -9,15 +9,12 @@ use Rattle.wh_words.specs.CapacityTraces.{IsCapacityTrace, IsCapacityStep}
 use Rattle.wh_words.specs.CapacityTraces.IsCapacityTrace.{done, step}
 use Rattle.wh_words.specs.Levels.{Reaches}
 use Rattle.wh_words.specs.Levels.Reaches.{here, step as further}
+use Rattle.wh_words.proofs.MoveLists.{act_all-append, inverse_list-cons}
 use Rattle.wh_words.proofs.ImageLetters.{act_tuple}
 use Rattle.wh_moves.proofs.InverseMoves.{undone}
 use Rattle.wh_reduce.proofs.Traced.{step_shortens}
 
 -- ---- what moves lead to
-pub act_all-append : (t : TupleData) (ms ns : List Move) → act_all t (ms ++ ns) ≡ act_all (act_all t ms) ns
-act_all-append t [] ns = refl
-act_all-append t (m ∷ ms) ns = act_all-append (act t m) ms ns
-
 pub trace_leads : (t u : TupleData) (ms : List Move) → IsCapacityTrace t ms u → act_all t ms ≡ u
 trace_leads t u [] (done flat) = refl
 trace_leads t u (m ∷ ms) (step s r) = trace_leads (act t m) u ms r
@@ -38,9 +35,6 @@ step_tuple t m is low s = act_tuple t m is (step_move t m low s) (step_rank t m 
 
 pub step_back : (t : TupleData) (m : Move) → IsTuple t → t.rank ≤ 26 → IsCapacityStep t m → act (act t m) (inverse_move m) ≡ t
 step_back t m is low s = undone t m is (step_move t m low s)
-
-pub inverse_list-cons : (m : Move) (ms : List Move) → inverse_list (m ∷ ms) ≡ inverse_list ms ++ inverse_move m ∷ []
-inverse_list-cons m ms = ap (map inverse_move) (reverse-append (m ∷ []) ms) ∙ map-append inverse_move (reverse ms) (m ∷ [])
 
 pub trace_back : (t u : TupleData) (ms : List Move) → IsTuple t → t.rank ≤ 26 → IsCapacityTrace t ms u → act_all u (inverse_list ms) ≡ t
 trace_back t u [] is low (done flat) = refl

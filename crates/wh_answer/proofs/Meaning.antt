@@ -13,10 +13,10 @@ use Rattle.wh_words.specs.Levels.{InLevel, Reaches}
 use Rattle.wh_words.specs.Levels.Reaches.{here, step}
 use Rattle.wh_flow.specs.Tables.{cell}
 use Rattle.wh_reduce.proofs.Certificates.{flows_flat}
-use Rattle.wh_text.specs.AnswerData.{SideData}
-use Rattle.wh_text.specs.AnswerData.VerdictData.{yes, no_length, no_level, undecided}
-use Rattle.wh_text.specs.AnswerData.AnswerData.{reduce, decide}
-use Rattle.wh_text.specs.Numberings.{side_lines}
+use Rattle.wh_data.specs.AnswerData.{SideData}
+use Rattle.wh_data.specs.AnswerData.VerdictData.{yes, no_length, no_level, undecided}
+use Rattle.wh_data.specs.AnswerData.AnswerData.{reduce, decide}
+use Rattle.wh_data.specs.Numberings.{side_lines}
 use Rattle.wh_cert.specs.Demands.{Demand, Placed, fit_on_the_way, moves_carry, lengths_differ, lengths_agree, rises, has_height, is_absent, is_closed, has_root, has_flow, trace_ends, IsGeneratorFlow, ImagesAreIn, IsMet, tuple_at, asked_below, trace_asked, flow_asked, flows_asked, side_asked, sides_asked, at_asked, level_asked}
 use Rattle.wh_cert.specs.Checks.{AreMet}
 use Rattle.wh_peak.specs.Equivalence.{AreMovesOfRank}

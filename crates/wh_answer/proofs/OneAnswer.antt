@@ -8,21 +8,21 @@ use Rattle.wh_words.specs.MoveLists.{inverse_list}
 use Rattle.wh_words.specs.CapacityTraces.{IsCapacityTrace}
 use Rattle.wh_words.specs.Levels.{InLevel, IsLevel, IsFirstWalk, HasMoreThan}
 use Rattle.wh_level.proofs.LawProofs.{level_unique, limit_exact, first_walk_unique}
-use Rattle.wh_text.specs.declared.status.Status.{Status}
-use Rattle.wh_text.specs.declared.status.Status.TheVariants as statuses
-use Rattle.wh_text.specs.declared.answer.Side.{Side}
-use Rattle.wh_text.specs.declared.answer.Bound.TheVariants.{Length, Level}
-use Rattle.wh_text.specs.declared.answer.Verdict.{Verdict}
-use Rattle.wh_text.specs.declared.answer.Verdict.TheVariants.{Yes, NoLength, NoLevel, Undecided}
-use Rattle.wh_text.specs.declared.answer.Answer.TheVariants as answers
-use Rattle.wh_text.specs.Problems.ProblemData.{reduce, decide}
-use Rattle.wh_text.specs.AnswerData.{VerdictData, plains, side_of, verdict_of}
+use Rattle.wh_data.specs.declared.status.Status.{Status}
+use Rattle.wh_data.specs.declared.status.Status.TheVariants as statuses
+use Rattle.wh_data.specs.declared.answer.Side.{Side}
+use Rattle.wh_data.specs.declared.answer.Bound.TheVariants.{Length, Level}
+use Rattle.wh_data.specs.declared.answer.Verdict.{Verdict}
+use Rattle.wh_data.specs.declared.answer.Verdict.TheVariants.{Yes, NoLength, NoLevel, Undecided}
+use Rattle.wh_data.specs.declared.answer.Answer.TheVariants as answers
+use Rattle.wh_data.specs.ProblemData.ProblemData.{reduce, decide}
+use Rattle.wh_data.specs.AnswerData.{VerdictData, plains, side_of, verdict_of}
 use Rattle.wh_fields.specs.TupleFields.{words_row}
 use Rattle.wh_lines.specs.Rows.{Row, number_row, rows_text}
-use Rattle.wh_text.specs.declared.command.Command.TheVariants as commands
-use Rattle.wh_text.specs.Commands.{heading_row}
-use Rattle.wh_text.specs.AnswerTexts.{side_rows, level_rows, verdict_row, verdict_rows, done_row, answer_text}
-use Rattle.wh_text.specs.Statuses.{verdict_status}
+use Rattle.wh_data.specs.declared.command.Command.TheVariants as commands
+use Rattle.wh_data.specs.Commands.{heading_row}
+use Rattle.wh_data.specs.AnswerTexts.{side_rows, level_rows, verdict_row, verdict_rows, done_row, answer_text}
+use Rattle.wh_data.specs.Statuses.{verdict_status}
 use Rattle.wh_answer.specs.Answers.{IsSideOf, EndApart, Decides}
 use Rattle.wh_answer.specs.Answers.Decides.{other_lengths, one_end, too_long, too_many, joined, off_level}
 use Rattle.wh_answer.specs.Laws.{AnswerIsUnique}

@@ -11,14 +11,14 @@ use Rattle.wh_flow.proofs.Sums.{sum-same}
 use Rattle.wh_graph.proofs.Agreement.{traces_agree}
 use Rattle.wh_reduce.specs.FlowLists.{AreFlows}
 use Rattle.wh_reduce.proofs.Certificates.{flows_unique}
-use Rattle.wh_text.specs.declared.answer.Side.{Side}
+use Rattle.wh_data.specs.declared.answer.Side.{Side}
 use Rattle.wh_fields.specs.Words.{letter_text}
 use Rattle.wh_fields.specs.Repeated.{below}
 use Rattle.wh_fields.specs.FlowFields.{pair_item, pair_fields, flow_value, flow_row, flow_rows}
 use Rattle.wh_fields.specs.TupleFields.{words_row}
 use Rattle.wh_fields.specs.MoveFields.{moves_row}
-use Rattle.wh_text.specs.AnswerData.{side_of}
-use Rattle.wh_text.specs.AnswerTexts.{side_rows}
+use Rattle.wh_data.specs.AnswerData.{side_of}
+use Rattle.wh_data.specs.AnswerTexts.{side_rows}
 use Rattle.wh_answer.specs.Answers.{IsSideOf}
 use Rattle.wh_answer.proofs.Verdicts.{trace_rank}
 

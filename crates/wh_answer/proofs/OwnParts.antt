@@ -5,6 +5,7 @@ use Rattle.std.proofs.lemmas.List.{length-map}
 use Rattle.std.proofs.lemmas.List.Elements.{All-nil, All-cons, All-head, All-tail, All-push}
 use Rattle.std.proofs.lemmas.List.Sums.{count_by-le-length}
 use Rattle.std.specs.List.{All}
+use Rattle.wh_words.proofs.MoveLists.{inverse_list-cons}
 use Rattle.wh_words.specs.CyclicWords.{cyclic_word}
 use Rattle.wh_words.specs.Tuples.{TupleData, IsTuple, tuple_length}
 use Rattle.wh_words.specs.Moves.{Move, inverse_move}
@@ -28,7 +29,7 @@ use Rattle.wh_lines.proofs.Equations.{both_true}
 use Rattle.wh_fields.specs.MoveFields.{IsMoveOf}
 use Rattle.wh_fields.specs.TupleFields.{IsTupleOf}
 use Rattle.wh_fields.specs.FlowFields.{IsFlowOf}
-use Rattle.wh_answer.proofs.Inverses.{step_move, step_rank, inverse_list-cons}
+use Rattle.wh_answer.proofs.Inverses.{step_move, step_rank}
 use Rattle.wh_answer.proofs.Sides.{flows_have_lines}
 
 -- ---- moves

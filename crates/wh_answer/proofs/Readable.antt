@@ -11,23 +11,23 @@ use Rattle.wh_words.specs.CapacityTraces.{IsCapacityTrace}
 use Rattle.wh_words.specs.Levels.{InLevel, IsLevel}
 use Rattle.wh_words.specs.Levels.Reaches.{here}
 use Rattle.wh_level.proofs.Walks.{reached_length}
-use Rattle.wh_text.specs.declared.answer.Side.{Side}
-use Rattle.wh_text.specs.declared.answer.Verdict.{Verdict}
-use Rattle.wh_text.specs.declared.answer.Verdict.TheVariants.{Yes}
-use Rattle.wh_text.specs.declared.answer.Answer.TheVariants as answers
-use Rattle.wh_text.specs.Problems.ProblemData.{reduce, decide}
+use Rattle.wh_data.specs.declared.answer.Side.{Side}
+use Rattle.wh_data.specs.declared.answer.Verdict.{Verdict}
+use Rattle.wh_data.specs.declared.answer.Verdict.TheVariants.{Yes}
+use Rattle.wh_data.specs.declared.answer.Answer.TheVariants as answers
+use Rattle.wh_data.specs.ProblemData.ProblemData.{reduce, decide}
 use Rattle.wh_lines.specs.Rows.{row_text, rows_text, number_row}
 use Rattle.wh_lines.proofs.PrintedRows.{rows_append}
 use Rattle.wh_fields.specs.TupleFields.{words_row, IsTupleOf}
-use Rattle.wh_text.specs.declared.command.Command.TheVariants as commands
-use Rattle.wh_text.specs.Commands.{heading_row}
-use Rattle.wh_text.specs.AnswerTexts.{side_rows, level_rows, verdict_row, verdict_rows, done_row, head_rows, body_rows, answer_text}
-use Rattle.wh_text.specs.AnswerData.{plains, side_of, verdict_of, answer_of}
-use Rattle.wh_text.specs.AnswerData.{AnswerData}
-use Rattle.wh_text.specs.AnswerData.AnswerData.{reduce as reduced, decide as decided}
+use Rattle.wh_data.specs.declared.command.Command.TheVariants as commands
+use Rattle.wh_data.specs.Commands.{heading_row}
+use Rattle.wh_data.specs.AnswerTexts.{side_rows, level_rows, verdict_row, verdict_rows, done_row, head_rows, body_rows, answer_text}
+use Rattle.wh_data.specs.AnswerData.{plains, side_of, verdict_of, answer_of}
+use Rattle.wh_data.specs.AnswerData.{AnswerData}
+use Rattle.wh_data.specs.AnswerData.AnswerData.{reduce as reduced, decide as decided}
 use Rattle.wh_fields.specs.MoveFields.{moves_row, IsMoveOf}
 use Rattle.wh_fields.specs.FlowFields.{IsFlowOf}
-use Rattle.wh_text.specs.ReadingBack.{IsVerdictOf, IsSideOf as IsSideOfRank}
+use Rattle.wh_data.specs.AnswerParts.{IsVerdictOf, IsSideOf as IsSideOfRank}
 use Rattle.wh_answer.specs.Answers.{IsSideOf, Decides}
 use Rattle.wh_answer.specs.Answers.Decides.{other_lengths, one_end, too_long, too_many, joined, off_level}
 use Rattle.wh_answer.specs.Certified.{IsDecided, IsReadable}

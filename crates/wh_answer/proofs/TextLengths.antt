@@ -19,9 +19,9 @@ use Rattle.wh_fields.specs.MoveFields.{set_item, set_text, kind_text, moves_row,
 use Rattle.wh_fields.specs.TupleFields.{words_row}
 use Rattle.wh_fields.specs.FlowFields.{pair_item, pair_fields, flow_value, flow_row, flow_rows, IsFlowOf}
 use Rattle.wh_fields.proofs.RepeatedTexts.{fields_below}
-use Rattle.wh_text.specs.AnswerData.{SideData}
-use Rattle.wh_text.specs.AnswerTexts.{side_rows, at_rows, level_rows}
-use Rattle.wh_text.specs.ReadingBack.{IsSideOf}
+use Rattle.wh_data.specs.AnswerData.{SideData}
+use Rattle.wh_data.specs.AnswerTexts.{side_rows, at_rows, level_rows}
+use Rattle.wh_data.specs.AnswerParts.{IsSideOf}
 
 -- ---- rows
 -- the text of a row is its keyword, its fields and a byte

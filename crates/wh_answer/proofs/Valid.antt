@@ -4,15 +4,15 @@ use Rattle.wh_words.specs.Tuples.{TupleData, IsTuple}
 use Rattle.wh_words.specs.Moves.{Move}
 use Rattle.wh_words.specs.Action.{act_all}
 use Rattle.wh_moves.specs.Acts.{FitsOnTheWay}
-use Rattle.wh_text.specs.declared.answer.Verdict.{Verdict}
-use Rattle.wh_text.specs.declared.answer.Answer.{Answer}
-use Rattle.wh_text.specs.declared.answer.Answer.TheVariants as answers
-use Rattle.wh_text.specs.Problems.{ProblemData}
-use Rattle.wh_text.specs.Problems.ProblemData.{reduce as to_reduce, decide as to_decide}
-use Rattle.wh_text.specs.AnswerData.{plains, side_of, verdict_of, answer_of}
-use Rattle.wh_text.specs.AnswerData.VerdictData.{yes}
-use Rattle.wh_text.specs.AnswerData.AnswerData.{decide}
-use Rattle.wh_text.specs.Numberings.{side_lines}
+use Rattle.wh_data.specs.declared.answer.Verdict.{Verdict}
+use Rattle.wh_data.specs.declared.answer.Answer.{Answer}
+use Rattle.wh_data.specs.declared.answer.Answer.TheVariants as answers
+use Rattle.wh_data.specs.ProblemData.{ProblemData}
+use Rattle.wh_data.specs.ProblemData.ProblemData.{reduce as to_reduce, decide as to_decide}
+use Rattle.wh_data.specs.AnswerData.{plains, side_of, verdict_of, answer_of}
+use Rattle.wh_data.specs.AnswerData.VerdictData.{yes}
+use Rattle.wh_data.specs.AnswerData.AnswerData.{decide}
+use Rattle.wh_data.specs.Numberings.{side_lines}
 use Rattle.wh_fields.specs.FlowFields.{heads_from}
 use Rattle.wh_cert.specs.Demands.{fit_on_the_way, moves_carry, lengths_differ, lengths_agree, side_asked, sides_asked, level_asked}
 use Rattle.wh_cert.specs.Checks.{AreMet}

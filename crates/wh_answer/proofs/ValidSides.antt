@@ -3,10 +3,10 @@ use Rattle.std.proofs.Common.{◌≡◌, ℕ, zero, suc, ◌+◌, ◌*◌, ◌<�
 use Rattle.std.proofs.lemmas.List.{get_or_append_left, get_or-append-add}
 use Rattle.wh_words.specs.Tuples.{TupleData, IsTuple}
 use Rattle.wh_reduce.specs.FlowLists.{AreFlows}
-use Rattle.wh_text.specs.declared.answer.Side.{Side}
+use Rattle.wh_data.specs.declared.answer.Side.{Side}
 use Rattle.wh_fields.specs.FlowFields.{flow_value, heads_from}
-use Rattle.wh_text.specs.AnswerData.{SideData, side_of}
-use Rattle.wh_text.specs.Numberings.{side_lines}
+use Rattle.wh_data.specs.AnswerData.{SideData, side_of}
+use Rattle.wh_data.specs.Numberings.{side_lines}
 use Rattle.wh_cert.specs.Demands.{Demand, Placed, fit_on_the_way, trace_ends, has_flow, IsGeneratorFlow, IsMet, asked_below, trace_asked, flow_asked, flows_asked, side_asked, sides_asked}
 use Rattle.wh_cert.specs.Checks.{AreMet}
 use Rattle.wh_cert.proofs.Judging.{one_met, both_met, none_asked, next_asked}

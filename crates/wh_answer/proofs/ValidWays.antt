@@ -1,5 +1,6 @@
 -- The tuples on the way of an answer's moves fit.
 use Rattle.std.proofs.Common.{◌≡◌, zero, suc, ◌≤◌, List, [], ◌∷◌, ◌++◌, sym, subst, arith}
+use Rattle.wh_words.proofs.MoveLists.{inverse_list-cons}
 use Rattle.wh_words.specs.Tuples.{TupleData, IsTuple}
 use Rattle.wh_words.specs.Moves.{Move, inverse_move}
 use Rattle.wh_words.specs.MoveLists.{inverse_list}
@@ -9,7 +10,7 @@ use Rattle.wh_words.specs.CapacityTraces.IsCapacityTrace.{done, step}
 use Rattle.wh_words.specs.Levels.{Reaches}
 use Rattle.wh_words.specs.Levels.Reaches.{here, step as further}
 use Rattle.wh_moves.specs.Acts.{Fits, FitsOnTheWay}
-use Rattle.wh_answer.proofs.Inverses.{trace_leads, walk_leads, step_tuple, step_back, inverse_list-cons, trace_back}
+use Rattle.wh_answer.proofs.Inverses.{trace_leads, walk_leads, step_tuple, step_back, trace_back}
 
 -- ---- one list of moves after another
 fits_here : (t : TupleData) → Fits t → FitsOnTheWay t []

@@ -1,6 +1,7 @@
 -- The verdict in each case, and that the moves of a yes carry the first tuple onto the second.
 use Rattle.std.proofs.Common.{◌≡◌, ◌≢◌, ℕ, ◌<◌, ◌≤◌, List, [], ◌∷◌, ◌++◌, length, map, refl, sym, ap, ◌∙◌, subst, arith}
 use Rattle.std.proofs.lemmas.List.{length-map}
+use Rattle.wh_words.proofs.MoveLists.{act_all-append}
 use Rattle.wh_words.specs.Limits.{most_level_length}
 use Rattle.wh_words.specs.Tuples.{TupleData, Tuple, tuple_length}
 use Rattle.wh_words.specs.Moves.{Move}
@@ -11,15 +12,15 @@ use Rattle.wh_words.specs.CapacityTraces.IsCapacityTrace.{done, step}
 use Rattle.wh_words.specs.Levels.{InLevel, IsLevel, IsFirstWalk, HasMoreThan}
 use Rattle.wh_reduce.specs.declared.trace.Trace.{Trace}
 use Rattle.wh_level.specs.Trees.{LevelData, IsClosedLevel}
-use Rattle.wh_text.specs.declared.answer.Side.{Side}
-use Rattle.wh_text.specs.declared.answer.Bound.TheVariants.{Length, Level}
-use Rattle.wh_text.specs.declared.answer.Verdict.TheVariants.{Yes, NoLength, NoLevel, Undecided}
+use Rattle.wh_data.specs.declared.answer.Side.{Side}
+use Rattle.wh_data.specs.declared.answer.Bound.TheVariants.{Length, Level}
+use Rattle.wh_data.specs.declared.answer.Verdict.TheVariants.{Yes, NoLength, NoLevel, Undecided}
 use Rattle.wh_answer.specs.Answers.{IsSideOf, EndApart, IsVerdict}
 use Rattle.wh_answer.specs.Answers.Decides.{other_lengths, one_end, too_long, too_many, joined, off_level}
 use Rattle.wh_answer.specs.Traced.{AreTraced, AreApart}
 use Rattle.wh_answer.specs.Findings.{Finds}
 use Rattle.wh_answer.specs.declared.finding.Finding.TheVariants as findings
-use Rattle.wh_answer.proofs.Inverses.{act_all-append, trace_leads, walk_leads, trace_back}
+use Rattle.wh_answer.proofs.Inverses.{trace_leads, walk_leads, trace_back}
 
 -- A trace keeps the rank.
 pub trace_rank : (t u : TupleData) (ms : List Move) → IsCapacityTrace t ms u → u.rank ≡ t.rank

@@ -8,14 +8,14 @@ use Rattle.wh_words.specs.Action.{act_all}
 use Rattle.wh_words.specs.CapacityTraces.{IsCapacityTrace}
 use Rattle.wh_words.specs.Levels.{InLevel, IsLevel, IsFirstWalk, HasMoreThan}
 use Rattle.wh_reduce.specs.FlowLists.{AreFlows}
-use Rattle.wh_text.specs.declared.answer.Side.{Side}
-use Rattle.wh_text.specs.declared.answer.Bound.TheVariants.{Length, Level}
-use Rattle.wh_text.specs.declared.answer.Verdict.{Verdict}
-use Rattle.wh_text.specs.declared.answer.Verdict.TheVariants.{Yes, NoLength, NoLevel, Undecided}
-use Rattle.wh_text.specs.declared.answer.Answer.{Answer}
-use Rattle.wh_text.specs.declared.answer.Answer.TheVariants as answers
-use Rattle.wh_text.specs.Problems.{ProblemData}
-use Rattle.wh_text.specs.Problems.ProblemData.{reduce, decide}
+use Rattle.wh_data.specs.declared.answer.Side.{Side}
+use Rattle.wh_data.specs.declared.answer.Bound.TheVariants.{Length, Level}
+use Rattle.wh_data.specs.declared.answer.Verdict.{Verdict}
+use Rattle.wh_data.specs.declared.answer.Verdict.TheVariants.{Yes, NoLength, NoLevel, Undecided}
+use Rattle.wh_data.specs.declared.answer.Answer.{Answer}
+use Rattle.wh_data.specs.declared.answer.Answer.TheVariants as answers
+use Rattle.wh_data.specs.ProblemData.{ProblemData}
+use Rattle.wh_data.specs.ProblemData.ProblemData.{reduce, decide}
 
 -- The side of a tuple: its trace, the end of that, and the flows of the generators of the end.
 pub record IsSideOf (t : TupleData) (side : Side) : Type 0 where

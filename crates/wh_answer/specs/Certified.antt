@@ -9,12 +9,12 @@ use Rattle.wh_peak.specs.Equivalence.{AreMovesOfRank}
 use Rattle.wh_peak.specs.Automorphisms.{composite}
 use Rattle.wh_peak.specs.Stabilisers.{LeadsToFlat}
 use Rattle.wh_nielsen.specs.Automorphisms.{IsAutomorphism, act_by, IsCarried}
-use Rattle.wh_text.specs.AnswerTexts.{answer_text}
-use Rattle.wh_text.specs.AnswerData.{VerdictData, AnswerData}
-use Rattle.wh_text.specs.AnswerData.VerdictData.{yes, no_length, no_level, undecided}
-use Rattle.wh_text.specs.AnswerData.AnswerData.{reduce, decide}
-use Rattle.wh_text.specs.Limits.{most_answer_bytes}
-use Rattle.wh_text.specs.ReadingBack.{IsCertificate, heads_of}
+use Rattle.wh_data.specs.AnswerTexts.{answer_text}
+use Rattle.wh_data.specs.AnswerData.{VerdictData, AnswerData}
+use Rattle.wh_data.specs.AnswerData.VerdictData.{yes, no_length, no_level, undecided}
+use Rattle.wh_data.specs.AnswerData.AnswerData.{reduce, decide}
+use Rattle.wh_data.specs.Limits.{most_answer_bytes}
+use Rattle.wh_data.specs.AnswerParts.{IsCertificate, heads_of}
 use Rattle.wh_cert.specs.Demands.{asked}
 use Rattle.wh_cert.specs.Checks.{AreMet}
 

@@ -4,8 +4,8 @@ use Rattle.wh_words.specs.Limits.{most_level_length}
 use Rattle.wh_words.specs.Tuples.{TupleData, tuple_length}
 use Rattle.wh_words.specs.Levels.{InLevel, IsLevel}
 use Rattle.wh_reduce.specs.declared.trace.Trace.{Trace}
-use Rattle.wh_text.specs.declared.answer.Verdict.{Verdict}
-use Rattle.wh_text.specs.declared.answer.Verdict.TheVariants.{Yes, Undecided}
+use Rattle.wh_data.specs.declared.answer.Verdict.{Verdict}
+use Rattle.wh_data.specs.declared.answer.Verdict.TheVariants.{Yes, Undecided}
 use Rattle.wh_answer.specs.declared.finding.Finding.{Finding}
 use Rattle.wh_answer.specs.declared.finding.Finding.TheVariants as findings
 use Rattle.wh_answer.specs.Answers.{IsVerdict}

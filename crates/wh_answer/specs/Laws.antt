@@ -2,13 +2,13 @@
 use Rattle.std.specs.Prelude.{◌≡◌, ℕ, ◌≤◌, List, length}
 use Rattle.wh_words.specs.Limits.{most_rank, most_level_rank, most_level_tuples}
 use Rattle.wh_words.specs.Tuples.{IsTuple}
-use Rattle.wh_text.specs.declared.answer.Answer.{Answer}
-use Rattle.wh_text.specs.Problems.{ProblemData}
-use Rattle.wh_text.specs.Problems.ProblemData.{reduce, decide}
-use Rattle.wh_text.specs.AnswerData.{AnswerData, answer_of}
-use Rattle.wh_text.specs.AnswerTexts.{answer_text}
-use Rattle.wh_text.specs.Statuses.{answer_status}
-use Rattle.wh_text.specs.Numberings.{IsAnswerOfOneRank}
+use Rattle.wh_data.specs.declared.answer.Answer.{Answer}
+use Rattle.wh_data.specs.ProblemData.{ProblemData}
+use Rattle.wh_data.specs.ProblemData.ProblemData.{reduce, decide}
+use Rattle.wh_data.specs.AnswerData.{AnswerData, answer_of}
+use Rattle.wh_data.specs.AnswerTexts.{answer_text}
+use Rattle.wh_data.specs.Statuses.{answer_status}
+use Rattle.wh_data.specs.Numberings.{IsAnswerOfOneRank}
 use Rattle.wh_cert.specs.Demands.{asked}
 use Rattle.wh_cert.specs.Checks.{AreMet}
 use Rattle.wh_answer.specs.Answers.{Answers}

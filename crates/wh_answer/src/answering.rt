@@ -1,9 +1,9 @@
 //! The answer to a problem.
 ghost use Rattle.std.specs.Prelude.{ℕ, IfOk};
-ghost use Rattle.wh_text.specs.Problems.{problem_of};
-ghost use Rattle.wh_text.specs.Problems.ProblemData.{reduce as to_reduce, decide as to_decide};
-ghost use Rattle.wh_text.specs.AnswerTexts.{IsPrintable};
-ghost use Rattle.wh_text.specs.AnswerData.{answer_of};
+ghost use Rattle.wh_data.specs.ProblemData.{problem_of};
+ghost use Rattle.wh_data.specs.ProblemData.ProblemData.{reduce as to_reduce, decide as to_decide};
+ghost use Rattle.wh_data.specs.AnswerTexts.{IsPrintable};
+ghost use Rattle.wh_data.specs.AnswerData.{answer_of};
 ghost use Rattle.wh_answer.specs.Answers.{Answers, IsAnswerable};
 ghost use Rattle.wh_answer.specs.Certified.{IsDecided, IsValid};
 
@@ -11,7 +11,7 @@ use crate::deciding::decide;
 use crate::side::side_of;
 use std::alloc::Global;
 use wh_reduce::reduce;
-use wh_text::{Answer, Problem};
+use wh_data::{Answer, Problem};
 use wh_words::{OutOfMemory, Tuple};
 
 /// The answer where a tuple is to be reduced.

@@ -4,8 +4,8 @@ ghost use Rattle.wh_words.specs.Limits.{most_level_rank, most_level_length};
 ghost use Rattle.wh_words.specs.Tuples.{TupleData, tuple_length};
 ghost use Rattle.wh_words.specs.CapacityTraces.{IsFlatByCapacities};
 ghost use Rattle.wh_words.specs.Levels.{InLevel, IsLevel};
-ghost use Rattle.wh_text.specs.AnswerData.{verdict_of};
-ghost use Rattle.wh_text.specs.AnswerTexts.{IsPrintableVerdict};
+ghost use Rattle.wh_data.specs.AnswerData.{verdict_of};
+ghost use Rattle.wh_data.specs.AnswerTexts.{IsPrintableVerdict};
 ghost use Rattle.wh_answer.specs.Answers.{IsVerdict};
 ghost use Rattle.wh_answer.specs.Findings.{Finds};
 ghost use Rattle.wh_answer.specs.Traced.{AreTraced, AreApart};
@@ -14,7 +14,7 @@ use crate::finding::{Finding, find};
 use crate::side::side_of;
 use std::alloc::Global;
 use wh_reduce::{Trace, reduce};
-use wh_text::Verdict;
+use wh_data::Verdict;
 use wh_words::{List, OutOfMemory, Tuple};
 
 /// The verdict where the traces end at different lengths.

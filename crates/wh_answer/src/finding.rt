@@ -14,7 +14,7 @@ use std::alloc::Global;
 use wh_level::Level;
 use wh_moves::Move;
 use wh_reduce::Trace;
-use wh_text::Bound;
+use wh_data::Bound;
 use wh_walk::walk;
 use wh_words::{List, MOST_LEVEL_LENGTH, OutOfMemory, Tuple};
 use wh_workers::Explored;

@@ -2,13 +2,13 @@
 ghost use Rattle.std.specs.Prelude.{◌≡◌, IfOk};
 ghost use Rattle.wh_words.specs.Tuples.{TupleData};
 ghost use Rattle.wh_words.specs.CapacityTraces.{IsFlatByCapacities, IsCapacityTrace};
-ghost use Rattle.wh_text.specs.AnswerData as told;
-ghost use Rattle.wh_text.specs.AnswerTexts.{IsPrintableSide};
+ghost use Rattle.wh_data.specs.AnswerData as told;
+ghost use Rattle.wh_data.specs.AnswerTexts.{IsPrintableSide};
 ghost use Rattle.wh_answer.specs.Answers.{IsSideOf};
 
 use std::alloc::Global;
 use wh_reduce::{Trace, flows};
-use wh_text::Side;
+use wh_data::Side;
 use wh_words::{List, OutOfMemory};
 
 /// The side of the tuple that has this trace.

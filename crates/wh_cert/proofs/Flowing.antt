@@ -12,7 +12,7 @@ use Rattle.wh_flow.specs.Tables.{cell}
 use Rattle.wh_flow.specs.Nets.{Net}
 use Rattle.wh_graph.specs.Graphs.{IsGraph}
 use Rattle.wh_graph.proofs.EdgeTables.{graph_degree}
-use Rattle.wh_text.specs.AnswerData.{SideData}
+use Rattle.wh_data.specs.AnswerData.{SideData}
 use Rattle.wh_cert.specs.declared.checked.Rule.TheVariants as rules
 use Rattle.wh_cert.specs.declared.stop.Stop.{Stop}
 use Rattle.wh_cert.specs.Demands.{Demand, rule_of, has_flow, IsMet, IsGeneratorFlow, flow_asked}

@@ -3,10 +3,10 @@ use Rattle.std.proofs.Common.{◌≡◌, ℕ, zero, suc, ◌+◌, ◌*◌, ◌<�
 use Rattle.std.specs.List.{All}
 use Rattle.std.proofs.lemmas.List.Elements.{All-nil, All-cons, All-append, All-contains, Contains-append_right}
 use Rattle.wh_words.specs.Tuples.{TupleData}
-use Rattle.wh_text.specs.AnswerData.{SideData, VerdictData, AnswerData, CertificateData}
-use Rattle.wh_text.specs.AnswerData.VerdictData.{yes, no_length, no_level, undecided}
-use Rattle.wh_text.specs.AnswerData.AnswerData.{reduce, decide}
-use Rattle.wh_text.specs.Numberings.{head_lines, side_lines, IsSideOfRank, IsVerdictOfRank, IsAnswerOfOneRank, IsNumbered, verdict_lines, answer_lines}
+use Rattle.wh_data.specs.AnswerData.{SideData, VerdictData, AnswerData, CertificateData}
+use Rattle.wh_data.specs.AnswerData.VerdictData.{yes, no_length, no_level, undecided}
+use Rattle.wh_data.specs.AnswerData.AnswerData.{reduce, decide}
+use Rattle.wh_data.specs.Numberings.{head_lines, side_lines, IsSideOfRank, IsVerdictOfRank, IsAnswerOfOneRank, IsNumbered, verdict_lines, answer_lines}
 use Rattle.wh_cert.specs.declared.checked.Rule.{Rule}
 use Rattle.wh_cert.specs.Demands.{Demand, Placed, fit_on_the_way, moves_carry, trace_ends, lengths_differ, lengths_agree, has_root, rises, has_height, is_absent, is_closed, tuple_at, asked_below, trace_asked, flow_asked, flows_asked, side_asked, sides_asked, at_asked, level_asked, verdict_asked, asked}
 use Rattle.wh_cert.specs.declared.stop.Stop.{Stop}

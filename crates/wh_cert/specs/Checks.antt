@@ -1,7 +1,7 @@
 -- What is found of a certificate.
 use Rattle.std.specs.Prelude.{◌≡◌, ℕ, List, ◌∷◌, ◌++◌, get_or}
 use Rattle.std.specs.List.{All}
-use Rattle.wh_text.specs.AnswerData.{CertificateData}
+use Rattle.wh_data.specs.AnswerData.{CertificateData}
 use Rattle.wh_cert.specs.declared.checked.Rule.{Rule}
 use Rattle.wh_cert.specs.declared.checked.Checked.{Checked}
 use Rattle.wh_cert.specs.declared.checked.Checked.TheVariants.{Valid, Invalid}

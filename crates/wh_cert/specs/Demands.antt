@@ -11,10 +11,10 @@ use Rattle.wh_words.specs.Flows.{IsFlow, HasValue}
 use Rattle.wh_words.specs.TupleFlows.{edge_table}
 use Rattle.wh_flow.specs.Tables.{cell}
 use Rattle.wh_moves.specs.Acts.{FitsOnTheWay}
-use Rattle.wh_text.specs.AnswerData.{SideData, VerdictData, AnswerData}
-use Rattle.wh_text.specs.AnswerData.VerdictData.{yes, no_length, no_level, undecided}
-use Rattle.wh_text.specs.AnswerData.AnswerData.{reduce, decide}
-use Rattle.wh_text.specs.Numberings.{head_lines, side_lines}
+use Rattle.wh_data.specs.AnswerData.{SideData, VerdictData, AnswerData}
+use Rattle.wh_data.specs.AnswerData.VerdictData.{yes, no_length, no_level, undecided}
+use Rattle.wh_data.specs.AnswerData.AnswerData.{reduce, decide}
+use Rattle.wh_data.specs.Numberings.{head_lines, side_lines}
 use Rattle.wh_cert.specs.declared.checked.Rule.{Rule}
 use Rattle.wh_cert.specs.declared.checked.Rule.TheVariants as rules
 

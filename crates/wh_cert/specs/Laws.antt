@@ -1,6 +1,6 @@
 -- What holds of all verdicts, as statements that contracts name.
 use Rattle.std.specs.Prelude.{◌≡◌}
-use Rattle.wh_text.specs.AnswerData.{CertificateData}
+use Rattle.wh_data.specs.AnswerData.{CertificateData}
 use Rattle.wh_cert.specs.declared.checked.Checked.{Checked}
 use Rattle.wh_cert.specs.Checks.{Checks}
 

@@ -3,9 +3,9 @@ ghost use Rattle.std.specs.Prelude.{◌≡◌, ◌↔◌, ◌+◌, ◌*◌, ◌<
 ghost use Rattle.std.specs.List.{All};
 ghost use Rattle.wh_words.specs.Limits.{most_level_rank};
 ghost use Rattle.wh_words.specs.Tuples.{TupleData};
-ghost use Rattle.wh_text.specs.AnswerData.{plains, side_of, verdict_of, answer_of, certificate_of};
-ghost use Rattle.wh_text.specs.Numberings.{IsNumbered, IsSideOfRank, IsVerdictOfRank, IsAnswerOfOneRank, verdict_flows, flow_lines};
-ghost use Rattle.wh_text.specs.Numberings as spec;
+ghost use Rattle.wh_data.specs.AnswerData.{plains, side_of, verdict_of, answer_of, certificate_of};
+ghost use Rattle.wh_data.specs.Numberings.{IsNumbered, IsSideOfRank, IsVerdictOfRank, IsAnswerOfOneRank, verdict_flows, flow_lines};
+ghost use Rattle.wh_data.specs.Numberings as spec;
 ghost use Rattle.wh_cert.specs.declared.checked.Rule.TheVariants as rules;
 ghost use Rattle.wh_cert.specs.Demands.{Demand, rule_of, IsMet, fit_on_the_way, moves_carry, lengths_differ, lengths_agree, level_asked, trace_asked, flows_asked, side_asked, sides_asked, verdict_asked, asked};
 ghost use Rattle.wh_cert.specs.Checks.{Checks};
@@ -17,7 +17,7 @@ use crate::sides::{carried, judge_flows, judge_trace};
 use crate::stop::{Stop, ask};
 use std::alloc::Global;
 use wh_moves::Move;
-use wh_text::{Answer, Numbered, Side, Verdict};
+use wh_data::{Answer, Numbered, Side, Verdict};
 use wh_words::{Letter, OutOfMemory, Rank, Tuple};
 
 /// How many lines a side of a rank has.

@@ -4,7 +4,7 @@ ghost use Rattle.std.specs.List.{All};
 ghost use Rattle.wh_words.specs.Limits.{most_level_rank};
 ghost use Rattle.wh_words.specs.Tuples.{TupleData};
 ghost use Rattle.wh_sets.specs.TupleSets.{HaveSameTuples};
-ghost use Rattle.wh_text.specs.AnswerData.{plains};
+ghost use Rattle.wh_data.specs.AnswerData.{plains};
 ghost use Rattle.wh_cert.specs.Demands.{Rises, rises, has_height, is_absent, is_closed, tuple_at, asked_below, at_asked, level_asked};
 ghost use Rattle.wh_cert.specs.Listings.{IsRoomy};
 ghost use Rattle.wh_cert.specs.Judged.{Judges};

@@ -6,8 +6,8 @@ ghost use Rattle.wh_words.specs.Tuples.{TupleData, IsTuple};
 ghost use Rattle.wh_words.specs.Flows.{HasValue};
 ghost use Rattle.wh_flow.specs.Tables.{cell};
 ghost use Rattle.wh_graph.specs.Graphs.{IsGraph};
-ghost use Rattle.wh_text.specs.AnswerData.{side_of};
-ghost use Rattle.wh_text.specs.Numberings.{IsSideOfRank};
+ghost use Rattle.wh_data.specs.AnswerData.{side_of};
+ghost use Rattle.wh_data.specs.Numberings.{IsSideOfRank};
 ghost use Rattle.wh_cert.specs.Demands.{IsGeneratorFlow, trace_asked, flows_asked};
 ghost use Rattle.wh_cert.specs.Judged.{Judges, CarriesTo};
 
@@ -17,7 +17,7 @@ use std::alloc::Global;
 use wh_flow::{Flow, Net, check_flow};
 use wh_graph::{deg, graph};
 use wh_moves::{ActError, Move, act_all};
-use wh_text::Side;
+use wh_data::Side;
 use wh_words::{Letter, OutOfMemory, Tuple};
 
 /// The tuple that moves carry a tuple to. None exactly where a tuple on the way has more than 4,096 letters.

@@ -104,7 +104,7 @@ fn read_move(rank: Rank, line: u64, field: &Field) -> Result<Move, ReadError>
 }
 
 /// The moves of fields.
-#[tactic(auto, using(wh_lines::proofs::ItemReadings::items_more, wh_lines::proofs::ItemReadings::items_fail, wh_lines::proofs::ItemReadings::items_end))]
+#[tactic(auto, using(wh_lines::proofs::ItemReadings::items_end))]
 pub fn read_moves(
     alloc: Global,
     rank: Rank,

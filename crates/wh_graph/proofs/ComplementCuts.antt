@@ -6,7 +6,7 @@ use Rattle.wh_words.specs.Letters.{inverse_letter}
 use Rattle.wh_words.specs.LetterSets.{in_set}
 use Rattle.wh_words.specs.Moves.{IsCut}
 use Rattle.wh_words.proofs.FreeReduction.{inverse-inverse}
-use Rattle.wh_words.proofs.ImageLetters.{inverse_below}
+use Rattle.wh_words.proofs.LetterMaps.{inverse_below}
 use Rattle.wh_graph.proofs.SetNumbers.{mask, mask_has, mask_cut, holds, omits}
 
 pub inverse_even : (g : ℕ) → inverse_letter (2 * g) ≡ 2 * g + 1

@@ -76,7 +76,7 @@ degree_counts t a is = go t.words is.cyclic
           go ws (All-tail (λ v. cyclic_word v ≡ v) w ws c),
         )
 
-of_inverse : (a x : ℕ) → is_of (inverse_letter a) x ≡ is_of a x
+pub of_inverse : (a x : ℕ) → is_of (inverse_letter a) x ≡ is_of a x
 of_inverse a x = ap (λ z. (x == inverse_letter a) || (x == z)) (inverse-inverse a) ∙ or_comm (x == inverse_letter a) (x == a)
 
 pub inverse_degree : InversesHaveOneDegree

@@ -10,7 +10,7 @@ use Rattle.wh_words.specs.Tuples.{TupleData, IsTuple}
 use Rattle.wh_words.specs.Edges.{edges, edges_after, word_edges, crosses, cap}
 use Rattle.wh_words.proofs.FreeReduction.{inverse-inverse}
 use Rattle.wh_words.proofs.CutImages.{own_reduced, last_is, follows}
-use Rattle.wh_words.proofs.ImageLetters.{inverse_below}
+use Rattle.wh_words.proofs.LetterMaps.{inverse_below}
 use Rattle.wh_graph.specs.Laws.{JoinsTwo, AsManyEdgesAsLetters, EdgesJoinTwoLetters, ComplementsHaveOneCapacity, CapacitiesAreSubmodular}
 
 -- ---- counts of any list
@@ -85,7 +85,7 @@ cap_same t A B is h =
     count_same (crosses A) (crosses B) (edges t)
     (λ k d l. let j : JoinsTwo t.rank (get_or (edges t) k d) = joined k d l in ap₂ split (h (get_or (edges t) k d).0 j.0) (h (get_or (edges t) k d).1 j.1))
 
-split_not : (b c : Bool) → split (not b) (not c) ≡ split b c
+pub split_not : (b c : Bool) → split (not b) (not c) ≡ split b c
 split_not true true = refl
 split_not true false = refl
 split_not false true = refl

@@ -31,7 +31,7 @@ module _ (a : ℕ) (has : ℕ → Bool) where
   kept_count false false x = refl
 
   -- The pass has a letter for each edge that crosses, and none for the letters of the multiplier.
-  pass_count : (p : ℕ) (w : List ℕ) → length (pass a has p w) + count_by (is_of a) w ≡ length w + count_by (crosses has) (edges_after p w)
+  pub pass_count : (p : ℕ) (w : List ℕ) → length (pass a has p w) + count_by (is_of a) w ≡ length w + count_by (crosses has) (edges_after p w)
   pass_count p [] = omega arith
   pass_count p (x ∷ w) =
       omega (

@@ -8,7 +8,7 @@ use Rattle.wh_words.specs.Letters.{inverse_letter}
 use Rattle.wh_words.specs.LetterSets.{in_set}
 use Rattle.wh_words.specs.Moves.{IsCut}
 use Rattle.wh_words.specs.CapacityTraces.{IsSubset}
-use Rattle.wh_words.proofs.ImageLetters.{inverse_below}
+use Rattle.wh_words.proofs.LetterMaps.{inverse_below}
 
 -- The number of the letters below k that pass a test.
 unfoldable pub mask : ℕ → (ℕ → Bool) → ℕ

@@ -11,14 +11,10 @@ use Rattle.std.specs.declared.cmp.Ordering.{Ordering}
 use Rattle.std.specs.declared.cmp.Ordering.TheVariants.{Less, Equal, Greater}
 use Rattle.wh_words.specs.Moves.{Move, move_cmp}
 use Rattle.wh_moves.specs.MoveOrders.{move_cmp_total, same_move, then_nothing}
+use Rattle.wh_moves.proofs.PackedOrder.{then_assoc}
 use Rattle.wh_level.specs.Searches.{walk_cmp, NoLater, Earlier}
 
 -- ---- the order of walks is total
-then_assoc : (a b c : Ordering) → ordering_then a (ordering_then b c) ≡ ordering_then (ordering_then a b) c
-then_assoc Less b c = refl
-then_assoc Equal b c = refl
-then_assoc Greater b c = refl
-
 pub walk_cmp_total : IsTotalOrder walk_cmp
 walk_cmp_total = then_total (on_total (λ (p : List Move). length p) nat_cmp_total) (lists_total move_cmp_total)
 

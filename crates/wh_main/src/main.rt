@@ -6,7 +6,7 @@ use std::env;
 use std::io::{self, ErrorKind};
 use std::process::ExitCode;
 use wh_io::{StdSink, StdSource};
-use wh_text::Status;
+use wh_data::Status;
 use whitehead::run;
 
 /// The words after the program's name.

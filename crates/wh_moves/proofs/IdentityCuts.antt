@@ -21,7 +21,7 @@ unmoved_image a set x n h k = other_image a set x n ∙ ap (λ (b : Bool). aroun
 not_alone : (a x : ℕ) → x ≢ a → in_set (2 ^ a) x ≡ false
 not_alone a x n = ap (λ b. b == 1) (bit_at-pow_other a x n)
 
-identity_image : (a x : ℕ) → image (cut a (2 ^ a)) x ≡ x ∷ []
+pub identity_image : (a x : ℕ) → image (cut a (2 ^ a)) x ≡ x ∷ []
 identity_image a x = elim (cases_eq (x / 2) (a / 2)) [
   | inl e ↦ own_image a (2 ^ a) x e
   | inr n ↦ unmoved_image a (2 ^ a) x n

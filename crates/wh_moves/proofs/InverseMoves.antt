@@ -1,7 +1,6 @@
 -- The inverse of a move undoes it.
-use Rattle.std.proofs.Common.{◌≡◌, ◌≢◌, ℕ, ◌+◌, ◌-◌, ◌*◌, ◌/◌, ◌^◌, ◌<◌, ◌==◌, Bool, true, false, cond, List, [], ◌∷◌, ◌++◌, map, refl, sym, ap, ◌∙◌, inl, inr, arith, append-nil}
-use Rattle.std.proofs.lemmas.Bool.{cases_eq, eq-eqb, ne_eqb}
-use Rattle.std.proofs.lemmas.Bool.Decides.{nat_tests}
+use Rattle.std.proofs.Common.{◌≡◌, ◌≢◌, ℕ, ◌+◌, ◌-◌, ◌*◌, ◌/◌, ◌^◌, ◌<◌, ◌==◌, Bool, true, false, List, [], ◌∷◌, ◌++◌, map, refl, sym, ap, ◌∙◌, inl, inr, arith, append-nil}
+use Rattle.std.proofs.lemmas.Bool.{cases_eq}
 use Rattle.std.proofs.lemmas.Nat.Bits.{same_from_bits_below}
 use Rattle.std.proofs.lemmas.List.Concat.{flat_map-append}
 use Rattle.std.proofs.lemmas.List.Elements.{All-head, All-tail}
@@ -13,12 +12,12 @@ use Rattle.wh_words.specs.Words.{free_reduction, put_before}
 use Rattle.wh_words.specs.CyclicWords.{cyclic_word}
 use Rattle.wh_words.specs.Moves.{Kind, IsKind, IsCut, turned_set, inverse_kind}
 use Rattle.wh_words.specs.Moves.Kind.{swap, invert, cut}
-use Rattle.wh_words.specs.Images.{image, swap_letter, invert_letter, inverse_word}
+use Rattle.wh_words.specs.Images.{image, inverse_word}
 use Rattle.wh_words.specs.Action.{substitute}
 use Rattle.wh_moves.specs.Laws.{InverseIsMove, InverseOfInverse, InverseUndoes}
 use Rattle.wh_words.proofs.FreeReduction.{inverse-inverse, inverse-other, inverse_generator, free_reduction-append_left, free_reduction-pair}
 use Rattle.wh_words.proofs.CutWords.{around, own_image, other_image}
-use Rattle.wh_words.proofs.ImageLetters.{inverse_below}
+use Rattle.wh_words.proofs.LetterMaps.{inverse_below, swap_back, invert_back}
 use Rattle.wh_words.proofs.LawProofs.{cancels}
 use Rattle.wh_words.proofs.OnePass.{same_class}
 use Rattle.wh_words.proofs.MoveLaws.{image_of_inverse}
@@ -90,22 +89,6 @@ pub inverse_move-inverse_move : InverseOfInverse
 inverse_move-inverse_move m h = ap (λ (k : Kind). record { rank = m.rank; kind = k }) (inverse_kind-inverse_kind m.rank m.kind h.kind)
 
 -- ---- letters
-swap_back : (k x : ℕ) → 0 < k → swap_letter k (swap_letter k x) ≡ x
-swap_back k x h = grind (arith, nat_tests)
-
-invert_back : (k x : ℕ) → invert_letter k (invert_letter k x) ≡ x
-invert_back k x = elim (cases_eq (x / 2 + 1) k) [
-  | inl e ↦ (
-      let here : invert_letter k x ≡ inverse_letter x = ap (λ (b : Bool). cond b (inverse_letter x) x) (eq-eqb (x / 2 + 1) k e) in
-      let there : inverse_letter x / 2 + 1 ≡ k = ap (λ z. z + 1) (inverse_generator x) ∙ e in
-      ap (invert_letter k) here
-      ∙ ap (λ (b : Bool). cond b (inverse_letter (inverse_letter x)) (inverse_letter x)) (eq-eqb (inverse_letter x / 2 + 1) k there)
-      ∙ inverse-inverse x)
-  | inr n ↦ (
-      let here : invert_letter k x ≡ x = ap (λ (b : Bool). cond b (inverse_letter x) x) (ne_eqb (x / 2 + 1) k n) in
-      ap (invert_letter k) here ∙ here)
-]
-
 module _ (f : ℕ → List ℕ) (a x : ℕ) (at_a : f a ≡ a ∷ []) (at_a' : f (inverse_letter a) ≡ inverse_letter a ∷ []) where
   around_undone : (b c : Bool) → f x ≡ around b c (inverse_letter a) x → free_reduction (flat_map f (around b c a x)) ≡ x ∷ []
   around_undone true true e =
@@ -149,7 +132,7 @@ cut_undone n a set x c = elim (cases_eq (x / 2) (a / 2)) [
 ]
 
 letter_undone : (n : ℕ) (k : Kind) (x : ℕ) → IsKind n k → free_reduction (substitute (inverse_kind k) (image k x)) ≡ x ∷ []
-letter_undone n (swap k) x h = ap (λ z. z ∷ []) (swap_back k x h.0)
+letter_undone n (swap k) x h = ap (λ z. z ∷ []) (swap_back k h.0 x)
 letter_undone n (invert k) x h = ap (λ z. z ∷ []) (invert_back k x)
 letter_undone n (cut a set) x h = cut_undone n a set x h
 

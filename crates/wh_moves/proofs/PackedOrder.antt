@@ -61,7 +61,7 @@ by_codes a b =
     parts 64 a b (a / 64) (b / 64) (a % 64) (b % 64)
     (omega arith) (omega arith) (λ h. omega arith) (λ h. omega arith) (λ e h. omega arith) (λ e h. omega arith)
 
-then_assoc : (a b c : Ordering) → ordering_then a (ordering_then b c) ≡ ordering_then (ordering_then a b) c
+pub then_assoc : (a b c : Ordering) → ordering_then a (ordering_then b c) ≡ ordering_then (ordering_then a b) c
 then_assoc Less b c = refl
 then_assoc Equal b c = refl
 then_assoc Greater b c = refl

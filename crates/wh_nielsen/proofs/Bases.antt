@@ -8,7 +8,7 @@ use Rattle.wh_words.specs.Letters.{inverse_letter}
 use Rattle.wh_words.specs.Words.{free_reduction, IsReduced, IsOfRank}
 use Rattle.wh_words.proofs.FreeReduction.{free_reduction-reduced}
 use Rattle.wh_words.proofs.StoredWords.{free_reduction-of_rank}
-use Rattle.wh_words.proofs.ImageLetters.{inverse_below}
+use Rattle.wh_words.proofs.LetterMaps.{inverse_below}
 use Rattle.wh_peak.proofs.FreeWords.{run, Same, Same-append, red_of, inverse_of, inverse_of-unique}
 use Rattle.wh_peak.proofs.Substitutions.{Substitution, flat_map-same}
 use Rattle.wh_nielsen.proofs.CommonFronts.{unique, same_reduced, inverse_of-reduced}

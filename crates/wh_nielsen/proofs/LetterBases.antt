@@ -11,12 +11,12 @@ use Rattle.wh_words.specs.Images.{invert_letter}
 use Rattle.wh_words.specs.Moves.{IsKind}
 use Rattle.wh_words.specs.Moves.Kind.{invert}
 use Rattle.wh_graph.specs.Laws.{is_of}
-use Rattle.wh_words.proofs.ImageLetters.{inverse_below}
+use Rattle.wh_words.proofs.LetterMaps.{inverse_below}
 use Rattle.wh_peak.proofs.FreeWords.{run, Same, red_of, inverse_of}
 use Rattle.wh_peak.proofs.Substitutions.{Substitution}
 use Rattle.wh_peak.proofs.DisjointCuts.{is-neither}
 use Rattle.wh_peak.proofs.CarriedLetters.{is-back, carry-a, carry-o, carry-turn, carry-undone}
-use Rattle.wh_peak.proofs.SwapLetters.{invert-on, invert-off}
+use Rattle.wh_words.proofs.LetterMaps.{invert_here, invert_there}
 use Rattle.wh_peak.proofs.Steps.{Step, substitution}
 use Rattle.wh_peak.proofs.Steps.Step.{maps}
 use Rattle.wh_peak.proofs.CarryWords.{Word}
@@ -146,8 +146,8 @@ module _ (n : ℕ) (few : n ≤ 26) where
           | inl e ↦ (let k : IsKind n (invert (j + 1)) = (omega arith, omega (arith, l)) in
               let r : Ranked n (step_of n (invert (j + 1)) k) = Ranked-step n (invert (j + 1)) k in
               moved j lj (place j (omega (arith, l))) W V b h g (step_of n (invert (j + 1)) k) (invert_letter (j + 1)) (λ x. refl) r (word_below n (invert_letter (j + 1)) r.0)
-              (ap W.of (invert-on (j + 1) (2 * j) (omega arith) ∙ sym e) ∙ c.goes)
-              (λ x m q. invert-off (j + 1) x (λ z. omega (arith, z, q))))
+              (ap W.of (invert_here (j + 1) (2 * j) (omega arith) ∙ sym e) ∙ c.goes)
+              (λ x m q. invert_there (j + 1) x (λ z. omega (arith, z, q))))
           | inr ne' ↦ (let ac : is_of (2 * j) c.at ≡ false = is-neither (2 * j) c.at ne ne' in
               let r : Word n (carry (2 * j) c.at) × Word n (carry c.at (2 * j)) = carry_ranked n (2 * j) c.at la c.below ac in
               moved j lj (place j (omega (arith, l))) W V b h g

@@ -6,7 +6,7 @@ use Rattle.std.specs.List.{flat_map}
 use Rattle.wh_words.specs.Letters.{inverse_letter}
 use Rattle.wh_words.specs.Words.{free_reduction, IsReduced, IsOfRank, StartsOtherThan}
 use Rattle.wh_words.proofs.FreeReduction.{free_reduction-same, free_reduction-reduced}
-use Rattle.wh_words.proofs.ImageLetters.{inverse_below}
+use Rattle.wh_words.proofs.LetterMaps.{inverse_below}
 use Rattle.wh_peak.proofs.FreeWords.{run, run-append, Same, inv_ne, inverse_of, inverse_of-append, inverse_of-inverse_of}
 use Rattle.wh_peak.proofs.Substitutions.{Substitution}
 use Rattle.wh_nielsen.proofs.CommonFronts.{reduces_to, same_reduced, Longer, longer, inverse_of-length, Differ, Differ-turn, meet, common, common-turn, Fork, fork, cancel_front}

@@ -6,7 +6,7 @@ use Rattle.wh_words.specs.Letters.{inverse_letter}
 use Rattle.wh_words.specs.Words.{free_reduction, IsReduced, IsOfRank}
 use Rattle.wh_words.proofs.FreeReduction.{inverse-inverse}
 use Rattle.wh_words.proofs.StoredWords.{free_reduction-of_rank}
-use Rattle.wh_words.proofs.ImageLetters.{inverse_below}
+use Rattle.wh_words.proofs.LetterMaps.{inverse_below}
 use Rattle.std.proofs.lemmas.List.Elements.{All-append}
 use Rattle.wh_peak.proofs.FreeWords.{run, inverse_of, inverse_of-append, inverse_of-inverse_of, inverse_of-right}
 use Rattle.wh_peak.proofs.Substitutions.{Substitution}

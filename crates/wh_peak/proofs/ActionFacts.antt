@@ -1,12 +1,12 @@
 -- What the theory takes from how a cyclic word is written. All that stands above rests on these facts alone: a word and its conjugates have one normal form, substitutions respect it, it is no longer than the word, and a cut changes its length by what crosses the set.
-use Rattle.std.proofs.Common.{◌≡◌, ℕ, ◌+◌, ◌-◌, ◌≤◌, List, [], ◌∷◌, refl, sym, ap, ap₂, ◌∙◌, arith, length, length-append, get_or, count_by}
+use Rattle.std.proofs.Common.{◌≡◌, ℕ, ◌+◌, ◌-◌, ◌≤◌, List, [], ◌∷◌, refl, sym, ap, ap₂, ◌∙◌, arith, length, get_or, count_by}
 use Rattle.std.specs.Prelude.{Bool, true, false, cond, not, ◌&&◌, ◌||◌, ◌==◌, ◌++◌}
 use Rattle.std.specs.List.{flat_map}
 use Rattle.wh_words.specs.Letters.{inverse_letter}
 use Rattle.wh_words.specs.Words.{IsOfRank}
 use Rattle.wh_words.specs.CyclicWords.{cyclic_word}
-use Rattle.wh_words.specs.Passes.{junction, junction_of, kept, pass, round_pass}
-use Rattle.wh_words.specs.Edges.{edges_after, word_edges, crosses, ends_at}
+use Rattle.wh_words.specs.Passes.{round_pass}
+use Rattle.wh_words.specs.Edges.{word_edges, crosses, ends_at}
 use Rattle.wh_words.proofs.OnePass.{spread}
 use Rattle.wh_words.proofs.CutImages.{own_reduced, cut_word, least_length}
 use Rattle.wh_words.proofs.Rotations.{cyclic_word-turn, cyclic_word-same}
@@ -15,7 +15,7 @@ use Rattle.wh_words.proofs.OnePass.{same_class}
 use Rattle.wh_moves.proofs.Substitutions.{of_class}
 use Rattle.wh_graph.specs.Laws.{is_of}
 use Rattle.wh_graph.proofs.Degrees.{word_degree}
-use Rattle.wh_graph.proofs.EdgeCounts.{one, split, count-cons}
+use Rattle.wh_graph.proofs.Lengths.{pass_count}
 use Rattle.wh_peak.proofs.FreeWords.{run, run-append, Same, power, inverse_of, red_of, run-inverse_right}
 use Rattle.wh_peak.proofs.Substitutions.{Substitution}
 use Rattle.wh_peak.proofs.CutForms.{cut_letter, IsCut, image}
@@ -63,32 +63,6 @@ spread_by a false false false true x = refl
 spread_by a false false false false x = refl
 
 module _ (a : ℕ) (A : ℕ → Bool) where
-  junction_count : (b c : Bool) → length (junction_of a A b c) ≡ one (split b c)
-  junction_count true true = refl
-  junction_count true false = refl
-  junction_count false true = refl
-  junction_count false false = refl
-
-  kept_count : (b c : Bool) (x : ℕ) → length (cond (not b && not c) (x ∷ []) []) + one (b || c) ≡ 1
-  kept_count true c x = refl
-  kept_count false true x = refl
-  kept_count false false x = refl
-
-  -- A pass writes a letter for each edge that crosses, and drops the letters of the multiplier.
-  pass_count : (p : ℕ) (w : List ℕ) → length (pass a A p w) + count_by (is_of a) w ≡ length w + count_by (crosses A) (edges_after p w)
-  pass_count p [] = omega arith
-  pass_count p (x ∷ w) =
-      omega (
-        arith,
-        length-append (junction a A p x) (kept a A x ++ pass a A x w),
-        length-append (kept a A x) (pass a A x w),
-        junction_count (A p) (A (inverse_letter x)),
-        kept_count (x == a) (x == inverse_letter a) x,
-        pass_count x w,
-        count-cons (is_of a) x w,
-        count-cons (crosses A) (p, inverse_letter x) (edges_after x w),
-      )
-
   module _ (c : IsCut a A) where
     image_spread : (w : List ℕ) → flat_map (cut_letter a A) w ≡ flat_map (spread a A) w
     image_spread [] = refl
@@ -99,7 +73,7 @@ module _ (a : ℕ) (A : ℕ → Bool) where
     cut-length w own =
         let e : length (normal (flat_map (cut_letter a A) w)) ≡ length (round_pass a A w) =
         ap (λ v. length (normal v)) (image_spread w) ∙ ap length (cut_word a A c.has c.lacks w (own_reduced w own)) ∙ least_length (round_pass a A w) in
-        omega (arith, e, pass_count (get_or w (length w - 1) 0) w)
+        omega (arith, e, pass_count a A (get_or w (length w - 1) 0) w)
 
 -- The degree of a letter counts it and its inverse.
 pub normal-degree : (a : ℕ) (w : List ℕ) → normal w ≡ w → count_by (ends_at a) (word_edges w) ≡ count_by (is_of a) w

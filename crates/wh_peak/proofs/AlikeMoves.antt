@@ -6,7 +6,7 @@ use Rattle.wh_words.specs.Letters.{inverse_letter}
 use Rattle.wh_words.specs.Words.{free_reduction, IsOfRank}
 use Rattle.wh_words.specs.Moves.{Move}
 use Rattle.wh_words.specs.MoveLists.{inverse_list}
-use Rattle.wh_words.proofs.ImageLetters.{inverse_below}
+use Rattle.wh_words.proofs.LetterMaps.{inverse_below}
 use Rattle.wh_peak.specs.Equivalence.{AreMovesOfRank}
 use Rattle.wh_peak.specs.Automorphisms.{substitute_all, AreAlike}
 use Rattle.wh_peak.specs.Laws.{AlikeIsReflexive, AlikeIsSymmetric, AlikeIsTransitive, AlikeBetweenLists, AlikeListsActAlike, OneCompositeActsAlike, InverseListsCancel}

@@ -10,7 +10,7 @@ use Rattle.wh_words.specs.Letters.{inverse_letter}
 use Rattle.wh_words.specs.Words.{free_reduction, IsOfRank}
 use Rattle.wh_words.specs.Moves.{Move}
 use Rattle.wh_words.specs.Images.{inverse_word}
-use Rattle.wh_words.proofs.ImageLetters.{inverse_below}
+use Rattle.wh_words.proofs.LetterMaps.{inverse_below}
 use Rattle.wh_peak.specs.Equivalence.{AreMovesOfRank}
 use Rattle.wh_peak.specs.Automorphisms.{substitute_all, AreAlike}
 use Rattle.wh_peak.proofs.FreeWords.{ReducedWord, cancel_left, run, run-append, Same, inverse_of, run-inverse_left, red_of, run-inverse_right}

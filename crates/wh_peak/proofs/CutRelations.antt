@@ -13,7 +13,7 @@ use Rattle.wh_words.proofs.FreeReduction.{inverse-inverse}
 use Rattle.wh_moves.proofs.InverseMoves.{turned_other, turned_within, inverse_is_kind}
 use Rattle.wh_graph.specs.Laws.{is_of}
 use Rattle.wh_graph.proofs.SetNumbers.{holds, omits}
-use Rattle.wh_words.proofs.ImageLetters.{inverse_below}
+use Rattle.wh_words.proofs.LetterMaps.{inverse_below}
 use Rattle.wh_peak.specs.Equivalence.{AreMovesOfRank}
 use Rattle.wh_peak.specs.Automorphisms.{substitute_all}
 use Rattle.wh_words.specs.Moves.Kind.{cut}
@@ -30,7 +30,7 @@ use Rattle.wh_peak.proofs.InnerCuts.{inner_move, inner_kept, inner_joined, compl
 use Rattle.wh_peak.proofs.CutPairs.{commuting, conjugating}
 use Rattle.wh_peak.proofs.CarriedLetters.{carrying, letters-inverse, exchanging}
 use Rattle.wh_peak.proofs.DisjointCuts.{apart-right, apart-left, clash, is-neither}
-use Rattle.wh_peak.proofs.SwapLetters.{swap-twice, invert-twice}
+use Rattle.wh_words.proofs.LetterMaps.{swap_back, invert_back}
 use Rattle.wh_peak.proofs.KindSteps.{turned_is, substitute-back}
 use Rattle.wh_peak.proofs.MapsPastCuts.{past}
 use Rattle.wh_peak.proofs.MovesOfRank.{move_of_rank, none_of_rank, more_of_rank}
@@ -144,14 +144,14 @@ swaps_take_cuts n k a A B s u v h =
     trivial-by n (swap_move n k ∷ cut_move n a A ∷ swap_move n k ∷ cut_back n (swap_letter k a) B ∷ [])
     (letters (swap_letter k) (swap_turns k s.0) ∷ cutting a (in_set A) ∷ letters (swap_letter k) (swap_turns k s.0) ∷ undo (swap_letter k a) (λ x. in_set A (swap_letter k x)) ∷ [])
     (does-swap n k s, (does-cut n a A (in_set A) u (own-letters n A), (does-swap n k s, (does-back n (swap_letter k a) B (λ x. in_set A (swap_letter k x)) v h, tt))))
-    (taken (swap_letter k) (swap_turns k s.0) (swap-twice k s.0) a (in_set A) (cut_of n a A u))
+    (taken (swap_letter k) (swap_turns k s.0) (swap_back k s.0) a (in_set A) (cut_of n a A u))
 
 pub inversions_take_cuts : InversionsTakeCuts
 inversions_take_cuts n k a A B s u v h =
     trivial-by n (invert_move n k ∷ cut_move n a A ∷ invert_move n k ∷ cut_back n (invert_letter k a) B ∷ [])
     (letters (invert_letter k) (invert_turns k) ∷ cutting a (in_set A) ∷ letters (invert_letter k) (invert_turns k) ∷ undo (invert_letter k a) (λ x. in_set A (invert_letter k x)) ∷ [])
     (does-invert n k s, (does-cut n a A (in_set A) u (own-letters n A), (does-invert n k s, (does-back n (invert_letter k a) B (λ x. in_set A (invert_letter k x)) v h, tt))))
-    (taken (invert_letter k) (invert_turns k) (invert-twice k) a (in_set A) (cut_of n a A u))
+    (taken (invert_letter k) (invert_turns k) (invert_back k) a (in_set A) (cut_of n a A u))
 
 -- ---- two multipliers
 turned_cut : (n a b A : ℕ) → IsCut n a A → IsCut n b A → b ≢ a → IsCut n b (turned_set a A)

@@ -1,6 +1,6 @@
 -- From the tuple after one cut to the tuple after another with a disjoint set, by shorter tuples.
 use Rattle.wh_peak.specs.Relations.{carry}
-use Rattle.wh_words.proofs.ImageLetters.{inverse_below}
+use Rattle.wh_words.proofs.LetterMaps.{inverse_below}
 use Rattle.std.specs.List.{flat_map}
 use Rattle.std.proofs.Common.{◌≡◌, ℕ, ◌+◌, ◌*◌, ◌≤◌, ◌<◌, List, [], ◌∷◌, refl, sym, ap, inl, inr, ◌∙◌, arith, length}
 use Rattle.std.proofs.lemmas.Bool.{cases_eq, cases_Bool, cases_lt}

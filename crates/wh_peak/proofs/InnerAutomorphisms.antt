@@ -15,7 +15,7 @@ use Rattle.wh_words.specs.Action.{substitute, act}
 use Rattle.wh_words.specs.Levels.{IsLevelMove}
 use Rattle.wh_words.proofs.FreeReduction.{inverse-other}
 use Rattle.wh_graph.proofs.SetNumbers.{mask, mask_bit, mask_cut}
-use Rattle.wh_words.proofs.ImageLetters.{inverse_below}
+use Rattle.wh_words.proofs.LetterMaps.{inverse_below}
 use Rattle.wh_peak.specs.Equivalence.{IsMoveOfRank, AreMovesOfRank}
 use Rattle.wh_peak.specs.Automorphisms.{substitute_all}
 use Rattle.wh_peak.proofs.FreeWords.{put, cancel_left, cancel_right, run, run-append, Same, inverse_of}

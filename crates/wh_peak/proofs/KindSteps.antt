@@ -1,5 +1,5 @@
 -- Each kind of move as a step of the theory.
-use Rattle.wh_words.proofs.ImageLetters.{inverse_below}
+use Rattle.wh_words.proofs.LetterMaps.{inverse_below}
 use Rattle.wh_words.specs.Moves.{turned_set, inverse_kind, Kind, IsKind}
 use Rattle.wh_moves.proofs.InverseMoves.{turned_holds, turned_omits, turned_other}
 use Rattle.wh_graph.proofs.SetNumbers.{mask, mask_has, holds, omits}
@@ -20,7 +20,8 @@ use Rattle.wh_peak.proofs.CutSubstitutions.{cut_letter-same}
 use Rattle.wh_peak.proofs.CutsOfOneGenerator.{turned-away, turned-cut}
 use Rattle.wh_peak.proofs.DisjointCuts.{is-neither}
 use Rattle.wh_peak.proofs.Steps.{Step, substitution, back}
-use Rattle.wh_peak.proofs.SwapLetters.{same_generator, swap-twice, invert-twice}
+use Rattle.wh_peak.proofs.CutSubstitutions.{same_generator}
+use Rattle.wh_words.proofs.LetterMaps.{swap_back, invert_back}
 use Rattle.wh_graph.specs.Laws.{is_of}
 use Rattle.wh_peak.proofs.Steps.Step.{cuts, maps}
 use Rattle.wh_words.proofs.Mapped.{swap_turns, invert_turns}
@@ -44,8 +45,8 @@ image-mask n a A x l = image-cut a (mask (2 * n) A) x ∙ cut_letter-below n a (
 
 -- ---- each kind is a step
 abbrev pub step_of : (n : ℕ) (k : Kind) → IsKind n k → Step
-step_of n (swap k) h = maps (swap_letter k) (swap_letter k) (swap_turns k h.0) (swap_turns k h.0) (swap-twice k h.0) (swap-twice k h.0)
-step_of n (invert k) h = maps (invert_letter k) (invert_letter k) (invert_turns k) (invert_turns k) (invert-twice k) (invert-twice k)
+step_of n (swap k) h = maps (swap_letter k) (swap_letter k) (swap_turns k h.0) (swap_turns k h.0) (swap_back k h.0) (swap_back k h.0)
+step_of n (invert k) h = maps (invert_letter k) (invert_letter k) (invert_turns k) (invert_turns k) (invert_back k) (invert_back k)
 step_of n (cut a s) h = cuts a (in_set s) (record { has = holds s a h.holds; lacks = omits s (inverse_letter a) h.omits })
 
 pub image-step : (n : ℕ) (k : Kind) (h : IsKind n k) (x : ℕ) → image k x ≡ (substitution (step_of n k h)).of x

@@ -1,15 +1,12 @@
 -- Walks in a level as products of loops.
-use Rattle.std.proofs.Common.{◌≡◌, ◌≢◌, ℕ, ◌^◌, ◌==◌, List, [], ◌∷◌, refl, sym, ap, subst, inl, inr, ◌∙◌, arith, append_assoc, append-nil}
-use Rattle.std.proofs.lemmas.Bool.{true≢false, eqb-false}
+use Rattle.std.proofs.Common.{◌≡◌, ◌≢◌, ℕ, List, [], ◌∷◌, refl, sym, ap, subst, inl, inr, ◌∙◌, arith, append_assoc, append-nil}
+use Rattle.std.proofs.lemmas.Bool.{true≢false}
 use Rattle.std.proofs.lemmas.Cmp.{tied_itself}
-use Rattle.std.proofs.lemmas.Nat.Bits.{bit_at-pow_other}
-use Rattle.std.specs.Prelude.{true, false, ◌++◌, ◌⊎◌}
+use Rattle.std.specs.Prelude.{◌++◌, ◌⊎◌}
 use Rattle.std.specs.Cmp.Lexicographic.{slice_cmp, lists_total}
 use Rattle.std.specs.Ordering.{is_lt, is_gt}
 use Rattle.std.specs.declared.cmp.Ordering.{Ordering}
 use Rattle.std.specs.declared.cmp.Ordering.TheVariants.{Less, Equal, Greater}
-use Rattle.wh_words.specs.Letters.{inverse_letter}
-use Rattle.wh_words.specs.LetterSets.{in_set}
 use Rattle.wh_words.specs.Tuples.{TupleData, IsTuple}
 use Rattle.wh_words.specs.Moves.{Kind, Move, IsIdentityCut, move_cmp}
 use Rattle.wh_words.specs.Moves.Kind.{swap, invert, cut}
@@ -19,8 +16,7 @@ use Rattle.wh_words.specs.Action.{act, act_all}
 use Rattle.wh_words.specs.Levels.{IsLevelMove, Reaches, InLevel}
 use Rattle.wh_words.specs.Levels.Reaches.{here, step}
 use Rattle.wh_words.proofs.ImageLetters.{act_tuple}
-use Rattle.wh_moves.proofs.IdentityCuts.{identity_acts, identity_or_not}
-use Rattle.wh_graph.specs.Laws.{is_of}
+use Rattle.wh_moves.proofs.IdentityCuts.{identity_image, identity_acts, identity_or_not}
 use Rattle.wh_level.specs.Laws.{KeepsLength}
 use Rattle.wh_level.specs.Laws.KeepsLength.{done as kept_done, step as kept_step}
 use Rattle.wh_moves.specs.MoveOrders.{move_cmp_total}
@@ -31,24 +27,11 @@ use Rattle.wh_peak.specs.Equivalence.{IsMoveOfRank, AreMovesOfRank}
 use Rattle.wh_peak.specs.Stabilisers.{ArePaths, IsLoop, IsProduct}
 use Rattle.wh_peak.specs.Stabilisers.IsProduct.{none, more}
 use Rattle.wh_peak.proofs.FreeWords.{run}
-use Rattle.wh_peak.proofs.CutForms.{cut_letter, fixed}
-use Rattle.wh_peak.proofs.OtherGenerators.{is-left}
-use Rattle.wh_peak.proofs.CutSubstitutions.{is-turn, cut_letter-at}
-use Rattle.wh_peak.proofs.KindSteps.{image-cut}
 use Rattle.wh_peak.proofs.MovesOfRank.{none_of_rank, more_of_rank, both_of_rank, inverse_of_rank}
 use Rattle.wh_peak.proofs.ShortestTuples.{walk-of_rank}
 use Rattle.wh_peak.proofs.SameComposites.{AgreeOn, agree-refl, agree-of, agree-sym, agree-then, agree-before, agree-after, drop-redone}
 
 -- ---- identity cuts go
-identity_image : (a x : ℕ) → image (cut a (2 ^ a)) x ≡ x ∷ []
-identity_image a x = image-cut a (2 ^ a) x ∙ elim (is_of a x) as (λ b. is_of a x ≡ b → cut_letter a (in_set (2 ^ a)) x ≡ x ∷ []) [
-  | true ↦ λ e. cut_letter-at a (in_set (2 ^ a)) x e
-  | false ↦ λ e. fixed a (in_set (2 ^ a)) x (off x (is-left a x e)) (off (inverse_letter x) (is-left a (inverse_letter x) (is-turn a x ∙ e)))
-] refl
-  where
-    off : (y : ℕ) → (y == a) ≡ false → in_set (2 ^ a) y ≡ false
-    off y e = ap (λ b. b == 1) (bit_at-pow_other a y (eqb-false y a e))
-
 identity_goes : (n : ℕ) (k : Kind) → IsIdentityCut k → (x : ℕ) → image k x ≡ x ∷ []
 identity_goes n (swap j) h x = absurd h
 identity_goes n (invert j) h x = absurd h

@@ -1,5 +1,5 @@
 -- Round a peak of two cuts: by way of a cut of one of the quadrants of their sets, which is disjoint from both up to complements.
-use Rattle.wh_words.proofs.ImageLetters.{inverse_below}
+use Rattle.wh_words.proofs.LetterMaps.{inverse_below}
 use Rattle.std.proofs.Common.{◌≡◌, ℕ, ◌+◌, ◌*◌, ◌≤◌, ◌<◌, List, [], ◌∷◌, refl, sym, ap, subst, inl, inr, arith, length-append}
 use Rattle.std.specs.Prelude.{Bool, true, false, cond, not, ◌&&◌, ◌++◌}
 use Rattle.wh_words.specs.Letters.{inverse_letter}

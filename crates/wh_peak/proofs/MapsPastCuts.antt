@@ -1,5 +1,5 @@
 -- Round a peak of a cut and a map of letters, by a shorter tuple.
-use Rattle.wh_words.proofs.ImageLetters.{inverse_below}
+use Rattle.wh_words.proofs.LetterMaps.{inverse_below}
 use Rattle.std.specs.List.{flat_map}
 use Rattle.std.proofs.Common.{◌≡◌, ℕ, ◌*◌, ◌≤◌, ◌<◌, List, [], ◌∷◌, refl, sym, ap, ap₂, subst, inl, inr, append-nil, ◌∙◌, arith, ne_eqb, length}
 use Rattle.std.specs.Prelude.{Bool, true, false, ◌++◌}

@@ -1,15 +1,12 @@
 -- Steps of a rank: their letters are, and each map of letters is a list of swaps and inversions.
 use Rattle.wh_peak.specs.Relations.{carry}
-use Rattle.wh_words.proofs.ImageLetters.{inverse_below}
-use Rattle.std.proofs.Common.{◌≡◌, ℕ, ◌+◌, ◌*◌, ◌/◌, ◌<◌, List, [], ◌∷◌, refl, subst, inl, inr, arith}
-use Rattle.std.proofs.lemmas.Bool.{cases_eq}
+use Rattle.wh_words.proofs.LetterMaps.{inverse_below, swap_below, invert_below}
+use Rattle.std.proofs.Common.{◌≡◌, ℕ, ◌*◌, ◌<◌, List, [], ◌∷◌, refl, subst, arith}
 use Rattle.std.specs.Prelude.{false, ◌++◌}
 use Rattle.wh_words.specs.Moves.{Kind, IsKind}
-use Rattle.wh_words.specs.Images.{swap_letter, invert_letter}
 use Rattle.wh_words.specs.Moves.Kind.{swap, invert, cut}
 use Rattle.wh_peak.proofs.CarriedLetters.{is-back}
 use Rattle.wh_peak.proofs.Steps.{Step, back}
-use Rattle.wh_peak.proofs.SwapLetters.{swap-low, swap-high, swap-off, invert-on, invert-off}
 use Rattle.wh_peak.proofs.SwapWords.{IsTurn, AreTurns, letter_map, letters_map}
 use Rattle.wh_peak.proofs.CarryWords.{Word, carry_word}
 use Rattle.wh_peak.proofs.KindSteps.{step_of}
@@ -34,21 +31,6 @@ Ranked-back n (maps p q hp hq qp pq) r = (r.1, r.0)
 
 pub carry_ranked : (n a b : ℕ) → a < 2 * n → b < 2 * n → is_of a b ≡ false → Word n (carry a b) × Word n (carry b a)
 carry_ranked n a b la lb ab = (carry_word n a b la lb ab, carry_word n b a lb la (is-back a b ab))
-
-swap_below : (n k x : ℕ) → k < n → x < 2 * n → swap_letter k x < 2 * n
-swap_below n k x l h = elim (cases_eq (x / 2 + 1) k) [
-  | inl e ↦ omega (arith, swap-low k x e)
-  | inr g ↦ elim (cases_eq (x / 2) k) [
-    | inl e ↦ omega (arith, swap-high k x e)
-    | inr f ↦ omega (arith, swap-off k x g f)
-  ]
-]
-
-invert_below : (n k x : ℕ) → x < 2 * n → invert_letter k x < 2 * n
-invert_below n k x h = elim (cases_eq (x / 2 + 1) k) [
-  | inl e ↦ omega (arith, invert-on k x e, inverse_below n x h)
-  | inr g ↦ omega (arith, invert-off k x g)
-]
 
 letter_below : (n : ℕ) (k : Kind) (x : ℕ) → IsTurn n k → x < 2 * n → letter_map k x < 2 * n
 letter_below n (swap k) x t h = swap_below n k x t.1 h

@@ -1,6 +1,7 @@
 -- Flat tuples are the shortest of their class, and share a level.
 use Rattle.std.proofs.Common.{◌≡◌, ℕ, ◌≤◌, List, [], ◌∷◌, refl, sym, ap, subst, ◌∙◌, arith}
 use Rattle.std.specs.Prelude.{◌++◌}
+use Rattle.wh_words.proofs.MoveLists.{act_all-append}
 use Rattle.wh_words.specs.Tuples.{TupleData, IsTuple, tuple_length}
 use Rattle.wh_words.specs.Moves.{Kind, Move, cut_move}
 use Rattle.wh_words.specs.Moves.Kind.{swap, invert, cut}
@@ -23,7 +24,7 @@ use Rattle.wh_peak.proofs.KindLists.{act_kind, act_kinds, AreKinds, AreOfRank}
 use Rattle.wh_peak.proofs.ExpandedSteps.{act_kinds-of_rank, turn_length}
 use Rattle.wh_peak.proofs.FlatKinds.{Flat, flat_is_minimal}
 use Rattle.wh_peak.proofs.OneLevel.{Keeps, LevelKinds, inverse_kinds, inverse_kinds-kinds, list_back, act_kinds-cyclic, flat_level}
-use Rattle.wh_peak.proofs.MovesOfRank.{kinds, move_of, moves_of, are_kinds, move_of_rank, none_of_rank, more_of_rank, both_of_rank, inverse_of_rank, acted, acted_by, act_all-append, act_all-rank, cyclic_words, words_of_rank, acted_length, acted_tuple, list_undone}
+use Rattle.wh_peak.proofs.MovesOfRank.{kinds, move_of, moves_of, are_kinds, move_of_rank, none_of_rank, more_of_rank, both_of_rank, inverse_of_rank, acted, acted_by, act_all-rank, cyclic_words, words_of_rank, acted_length, acted_tuple, list_undone}
 
 -- ---- equivalence
 pub equivalence_reflexive : EquivalenceIsReflexive

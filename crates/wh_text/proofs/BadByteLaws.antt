@@ -17,11 +17,12 @@ use Rattle.wh_lines.proofs.NextLines.{line_told}
 use Rattle.wh_lines.proofs.BadBytes.{IsBadAt, first_bad}
 use Rattle.wh_fields.specs.Words.{letter_of, letter_at, letters_at, word_at}
 use Rattle.wh_fields.specs.TupleFields.{words_at, short_tuple, tuple_at}
-use Rattle.wh_text.specs.declared.command.Command.{Command}
-use Rattle.wh_text.specs.declared.command.Command.TheVariants as commands
+use Rattle.wh_data.specs.declared.command.Command.{Command}
+use Rattle.wh_data.specs.declared.command.Command.TheVariants as commands
 use Rattle.wh_text.specs.RankLines.{greatest_rank, rank_at, rank_number, allowed_rank, no_rank, rank_after}
-use Rattle.wh_text.specs.Problems.{decide, tuple_line, tuples_of, one_tuple, two_tuples, decide_both, problem_with, problem_after, problem}
-use Rattle.wh_text.specs.Limits.{most_problem_bytes}
+use Rattle.wh_data.specs.ProblemData.ProblemData.{decide}
+use Rattle.wh_text.specs.Problems.{tuple_line, tuples_of, one_tuple, two_tuples, decide_both, problem_with, problem_after, problem}
+use Rattle.wh_data.specs.Limits.{most_problem_bytes}
 use Rattle.wh_text.specs.Laws.{NamesTheFirstBadByte, IsFirstBadByte}
 
 -- ---- what other readers refuse is no byte

@@ -7,9 +7,9 @@ use Rattle.wh_lines.specs.Lines.{Field, are}
 use Rattle.wh_lines.proofs.Equations.{ok_is, are_is, if_ok}
 use Rattle.wh_lines.proofs.PrintedRows.{IsShown, IsShownRow}
 use Rattle.wh_fields.proofs.ShownFields.{written_shown}
-use Rattle.wh_text.specs.declared.command.Command.{Command}
-use Rattle.wh_text.specs.declared.command.Command.TheVariants as commands
-use Rattle.wh_text.specs.Commands.{command_name, command_named, is_unchecked_name, answer_version, heading_row}
+use Rattle.wh_data.specs.declared.command.Command.{Command}
+use Rattle.wh_data.specs.declared.command.Command.TheVariants as commands
+use Rattle.wh_data.specs.Commands.{command_name, command_named, is_unchecked_name, answer_version, heading_row}
 use Rattle.wh_text.specs.Certificates.{checked_command, command_at, heading_in}
 
 -- ---- names

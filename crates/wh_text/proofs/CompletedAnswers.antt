@@ -21,13 +21,13 @@ use Rattle.wh_lines.proofs.RestRows.{AllSome}
 use Rattle.wh_lines.proofs.ExactReadings.{Then, Headed, Nothing, OneRow}
 use Rattle.wh_lines.proofs.CompletedReadings.{Possible, Completed, Completes, completed_here, completes_none, completes_then, completes_as, completes_by, completes_line, completes_head, missing_stands, read_stands, end_stands}
 use Rattle.wh_fields.proofs.ShownFields.{written_shown, decimal_shown}
-use Rattle.wh_text.specs.declared.command.Command.{Command}
-use Rattle.wh_text.specs.declared.command.Command.TheVariants as commands
+use Rattle.wh_data.specs.declared.command.Command.{Command}
+use Rattle.wh_data.specs.declared.command.Command.TheVariants as commands
 use Rattle.wh_text.specs.RankLines.{greatest_rank, rank_at, rank_after}
-use Rattle.wh_text.specs.AnswerData.VerdictData.{yes, no_length, no_level}
-use Rattle.wh_text.specs.AnswerData.AnswerData.{reduce, decide}
-use Rattle.wh_text.specs.Commands.{heading_row}
-use Rattle.wh_text.specs.AnswerTexts.{done_row}
+use Rattle.wh_data.specs.AnswerData.VerdictData.{yes, no_length, no_level}
+use Rattle.wh_data.specs.AnswerData.AnswerData.{reduce, decide}
+use Rattle.wh_data.specs.Commands.{heading_row}
+use Rattle.wh_data.specs.AnswerTexts.{done_row}
 use Rattle.wh_text.proofs.CommandNames.{heading_shown}
 use Rattle.wh_text.specs.Certificates.{in_answer, tuple_after, like_after, moves_after, side_after, level_after, VerdictWord, verdict_in, sides_after, verdict_with, verdict_after, AnswerRead, reduced_after, decided_after, answer_with, heading_in, heading_after, done_after, with_end, answer_after}
 use Rattle.wh_text.specs.Certificates.VerdictWord.{a_yes, a_no_length, a_no_level}

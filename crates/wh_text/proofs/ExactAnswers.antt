@@ -8,12 +8,12 @@ use Rattle.wh_lines.specs.Numbers.{number}
 use Rattle.wh_lines.specs.Rows.{Row}
 use Rattle.wh_lines.proofs.Equations.{ok_is, if_ok, both_true, are_is}
 use Rattle.wh_lines.proofs.ExactReadings.{Exact, Then, Headed, Nothing, OneRow, exact_none, exact_then, exact_head, exact_as}
-use Rattle.wh_text.specs.declared.command.Command.{Command}
-use Rattle.wh_text.specs.declared.command.Command.TheVariants as commands
-use Rattle.wh_text.specs.AnswerData.{SideData, VerdictData}
-use Rattle.wh_text.specs.AnswerData.VerdictData.{yes, no_length, no_level, undecided}
-use Rattle.wh_text.specs.AnswerData.AnswerData.{reduce, decide}
-use Rattle.wh_text.specs.AnswerTexts.{verdict_row}
+use Rattle.wh_data.specs.declared.command.Command.{Command}
+use Rattle.wh_data.specs.declared.command.Command.TheVariants as commands
+use Rattle.wh_data.specs.AnswerData.{SideData, VerdictData}
+use Rattle.wh_data.specs.AnswerData.VerdictData.{yes, no_length, no_level, undecided}
+use Rattle.wh_data.specs.AnswerData.AnswerData.{reduce, decide}
+use Rattle.wh_data.specs.AnswerTexts.{verdict_row}
 use Rattle.wh_text.specs.Certificates.{tuple_after, like_after, moves_after, SideRead, side_after, level_after, VerdictWord, verdict_in, VerdictRead, sides_after, verdict_with, verdict_after, AnswerRead, reduced_after, decided_after, answer_with}
 use Rattle.wh_text.specs.Certificates.VerdictWord.{a_yes, a_no_length, a_no_level}
 use Rattle.wh_text.specs.CertificateTexts.{IsTupleRow, IsLikeRow, IsMovesRow, IsLevelText, AreSideTexts, IsVerdictText}

@@ -18,14 +18,14 @@ use Rattle.wh_lines.proofs.NextLines.{behind, line_told, line_there, end_told}
 use Rattle.wh_lines.proofs.RowReadings.{Passes, passes_split, passes_append}
 use Rattle.wh_lines.proofs.RestRows.{Holds, AllSome, holds_is, holds_back, rest_all_some, holds_passes, passes_hold, passes_one}
 use Rattle.wh_lines.proofs.ExactReadings.{Exact, Then, OneRow, exact_then, exact_when, exact_line}
-use Rattle.wh_text.specs.declared.command.Command.{Command}
-use Rattle.wh_text.specs.declared.command.Command.TheVariants as commands
-use Rattle.wh_text.specs.Limits.{most_answer_bytes}
+use Rattle.wh_data.specs.declared.command.Command.{Command}
+use Rattle.wh_data.specs.declared.command.Command.TheVariants as commands
+use Rattle.wh_data.specs.Limits.{most_answer_bytes}
 use Rattle.wh_text.specs.RankLines.{greatest_rank, rank_at, no_rank, rank_after}
-use Rattle.wh_text.specs.AnswerData.{AnswerData, CertificateData}
-use Rattle.wh_text.specs.AnswerData.AnswerData.{reduce, decide}
-use Rattle.wh_text.specs.Commands.{command_name, answer_version, heading_row}
-use Rattle.wh_text.specs.AnswerTexts.{verdict_row, done_row}
+use Rattle.wh_data.specs.AnswerData.{AnswerData, CertificateData}
+use Rattle.wh_data.specs.AnswerData.AnswerData.{reduce, decide}
+use Rattle.wh_data.specs.Commands.{command_name, answer_version, heading_row}
+use Rattle.wh_data.specs.AnswerTexts.{verdict_row, done_row}
 use Rattle.wh_text.proofs.CommandNames.{heading_told, heading_back}
 use Rattle.wh_text.specs.Certificates.{in_answer, AnswerRead, answer_with, heading_in, heading_after, done_after, with_end, answer_after, certificate}
 use Rattle.wh_text.specs.CertificateTexts.{IsTupleRow, IsLikeRow, IsSideText, IsVerdictText, IsAnswerText, IsCertificateText, ReadsCertificates}

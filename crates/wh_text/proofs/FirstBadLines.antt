@@ -8,7 +8,7 @@ use Rattle.wh_lines.specs.LineReadings.{start}
 use Rattle.wh_lines.proofs.RestRows.{rest_all_some}
 use Rattle.wh_lines.proofs.ContinuedTexts.{LinesBefore, lines_before, continued}
 use Rattle.wh_lines.proofs.CompletedReadings.{Completed}
-use Rattle.wh_text.specs.AnswerData.{CertificateData}
+use Rattle.wh_data.specs.AnswerData.{CertificateData}
 use Rattle.wh_text.specs.Certificates.{answer_after, certificate}
 use Rattle.wh_text.specs.CertificateTexts.{IsCertificateText, BeginACertificate, NoneGoesOn, NamesTheFirstBadLine}
 use Rattle.wh_text.proofs.ExactCertificates.{answer_back}

@@ -20,14 +20,14 @@ use Rattle.wh_fields.specs.Words.{letter_of, letter_at, letters_at, word_at}
 use Rattle.wh_fields.specs.TupleFields.{words_at, short_tuple, tuple_at}
 use Rattle.wh_fields.specs.MoveFields.{kind_in, move_with, move_at}
 use Rattle.wh_fields.specs.FlowFields.{flow_in}
-use Rattle.wh_text.specs.declared.command.Command.{Command}
-use Rattle.wh_text.specs.declared.command.Command.TheVariants as commands
-use Rattle.wh_text.specs.Limits.{most_answer_bytes}
-use Rattle.wh_text.specs.Commands.{command_named, is_unchecked_name, answer_version}
+use Rattle.wh_data.specs.declared.command.Command.{Command}
+use Rattle.wh_data.specs.declared.command.Command.TheVariants as commands
+use Rattle.wh_data.specs.Limits.{most_answer_bytes}
+use Rattle.wh_data.specs.Commands.{command_named, is_unchecked_name, answer_version}
 use Rattle.wh_text.specs.RankLines.{greatest_rank, rank_at, rank_number, no_rank, rank_after}
-use Rattle.wh_text.specs.AnswerData.{CertificateData}
-use Rattle.wh_text.specs.AnswerData.VerdictData.{yes, no_length, no_level}
-use Rattle.wh_text.specs.AnswerData.AnswerData.{reduce, decide}
+use Rattle.wh_data.specs.AnswerData.{CertificateData}
+use Rattle.wh_data.specs.AnswerData.VerdictData.{yes, no_length, no_level}
+use Rattle.wh_data.specs.AnswerData.AnswerData.{reduce, decide}
 use Rattle.wh_text.specs.Certificates.{in_answer, tuple_after, like_after, moves_after, flow_after, side_with, side_after, number_in, level_after, VerdictWord, verdict_in, sides_after, verdict_with, verdict_after, reduced_after, decided_after, answer_with, checked_command, command_at, heading_in, heading_after, done_after, answer_after, certificate}
 use Rattle.wh_text.specs.Certificates.VerdictWord.{a_yes, a_no_length, a_no_level}
 use Rattle.wh_text.specs.CertificateTexts.{IsCertificateText}

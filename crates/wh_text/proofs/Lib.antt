@@ -3,13 +3,11 @@ pub mod CommandNames
 pub mod ProblemTuples
 pub mod ProblemLaws
 pub mod BadByteLaws
-pub mod PrintedAnswers
 pub mod ReadSides
 pub mod ReadVerdicts
 pub mod ReadAnswers
 pub mod ReadBack
 pub mod NumberedAnswers
-pub mod RowCounts
 pub mod ExactCertificates
 pub mod ExactLines
 pub mod ExactAnswers

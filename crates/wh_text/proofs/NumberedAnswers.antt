@@ -6,8 +6,8 @@ use Rattle.std.specs.List.{All}
 use Rattle.std.proofs.lemmas.List.{length-map}
 use Rattle.wh_words.specs.Tuples.{TupleData}
 use Rattle.wh_words.specs.Moves.{Move, Kind}
-use Rattle.wh_text.specs.declared.command.Command.{Command}
-use Rattle.wh_text.specs.declared.command.Command.TheVariants as commands
+use Rattle.wh_data.specs.declared.command.Command.{Command}
+use Rattle.wh_data.specs.declared.command.Command.TheVariants as commands
 use Rattle.wh_lines.specs.declared.read_error.ReadError.{ReadError}
 use Rattle.wh_lines.specs.declared.read_error.ReadError.TheVariants as errors
 use Rattle.wh_lines.specs.Lines.{Field}
@@ -18,14 +18,14 @@ use Rattle.wh_fields.specs.TupleFields.{tuple_at}
 use Rattle.wh_text.specs.RankLines.{greatest_rank, rank_at, no_rank, rank_after}
 use Rattle.wh_lines.specs.KeptLines.{Kept}
 use Rattle.wh_lines.specs.LineReadings.{Reading, start, line_after, end_after, times}
-use Rattle.wh_text.specs.AnswerData.{CertificateData}
-use Rattle.wh_text.specs.AnswerData.VerdictData.{yes, no_length, no_level}
-use Rattle.wh_text.specs.AnswerData.AnswerData.{reduce, decide}
+use Rattle.wh_data.specs.AnswerData.{CertificateData}
+use Rattle.wh_data.specs.AnswerData.VerdictData.{yes, no_length, no_level}
+use Rattle.wh_data.specs.AnswerData.AnswerData.{reduce, decide}
 use Rattle.wh_text.specs.Certificates.{tuple_after, like_after, moves_after, flow_after, SideRead, side_with, side_after, number_in, level_after, VerdictWord, VerdictRead, yes_after, sides_after, no_length_after, no_level_after, verdict_in, verdict_with, verdict_after, AnswerRead, reduced_after, decided_after, answer_with, heading_in, heading_after, in_answer, with_end, done_after, answer_after, certificate}
 use Rattle.wh_words.specs.Limits.{most_level_rank, most_level_tuples}
-use Rattle.wh_text.specs.Limits.{most_answer_bytes}
+use Rattle.wh_data.specs.Limits.{most_answer_bytes}
 use Rattle.wh_text.specs.Certificates.VerdictWord.{a_yes, a_no_length, a_no_level}
-use Rattle.wh_text.specs.Numberings.{IsSideOfRank, IsVerdictOfRank, IsAnswerOfOneRank, side_lines, verdict_lines, answer_lines, verdict_flows, flow_lines, IsNumbered}
+use Rattle.wh_data.specs.Numberings.{IsSideOfRank, IsVerdictOfRank, IsAnswerOfOneRank, side_lines, verdict_lines, answer_lines, verdict_flows, flow_lines, IsNumbered}
 use Rattle.wh_lines.proofs.Equations.{bind_ok, ok_is, ok_same, unless_ok, if_ok, refused_ok}
 use Rattle.wh_text.proofs.RankLaws.{rank_is}
 use Rattle.wh_fields.proofs.TupleLaws.{tuple_made}

@@ -21,11 +21,13 @@ use Rattle.wh_lines.proofs.RestRows.{Holds, AllSome, HaveRows, kept_row, holds_i
 use Rattle.wh_fields.specs.Words.{word_text}
 use Rattle.wh_fields.specs.TupleFields.{tuple_at}
 use Rattle.wh_fields.proofs.TupleLaws.{Spell, tuple_is, tuple_back}
-use Rattle.wh_text.specs.declared.command.Command.{Command}
-use Rattle.wh_text.specs.declared.command.Command.TheVariants as commands
+use Rattle.wh_data.specs.declared.command.Command.{Command}
+use Rattle.wh_data.specs.declared.command.Command.TheVariants as commands
 use Rattle.wh_text.specs.RankLines.{greatest_rank, rank_at, no_rank, rank_after}
-use Rattle.wh_text.specs.Problems.{ProblemData, reduce, decide, tuple_line, tuples_of, one_tuple, two_tuples, decide_both, problem_with, problem_after, problem}
-use Rattle.wh_text.specs.Limits.{most_problem_bytes}
+use Rattle.wh_data.specs.ProblemData.{ProblemData}
+use Rattle.wh_data.specs.ProblemData.ProblemData.{reduce, decide}
+use Rattle.wh_text.specs.Problems.{tuple_line, tuples_of, one_tuple, two_tuples, decide_both, problem_with, problem_after, problem}
+use Rattle.wh_data.specs.Limits.{most_problem_bytes}
 use Rattle.wh_text.specs.Laws.{IsRankLine, IsTupleLine, IsReduceText, IsDecideText, ReadsReduceTexts, ReadsDecideTexts}
 use Rattle.wh_text.proofs.RankLaws.{rank_within, rank_is, rank_back}
 

@@ -4,8 +4,8 @@ use Rattle.std.specs.Prelude.{leb, ◌&&◌, decimal}
 use Rattle.std.specs.declared.option.Option.{Option}
 use Rattle.std.proofs.lemmas.Bool.{cond-true}
 use Rattle.std.proofs.lemmas.Bool.Decides.{nat_tests}
-use Rattle.wh_text.specs.declared.command.Command.{Command}
-use Rattle.wh_text.specs.declared.command.Command.TheVariants as commands
+use Rattle.wh_data.specs.declared.command.Command.{Command}
+use Rattle.wh_data.specs.declared.command.Command.TheVariants as commands
 use Rattle.wh_lines.specs.declared.read_error.ReadError.TheVariants as errors
 use Rattle.wh_lines.specs.Lines.{Field}
 use Rattle.wh_lines.specs.Numbers.{number}

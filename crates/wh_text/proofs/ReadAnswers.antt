@@ -4,18 +4,18 @@ use Rattle.std.specs.Prelude.{codes, decimal}
 use Rattle.std.specs.List.{All}
 use Rattle.std.proofs.lemmas.List.Elements.{All-nil, All-cons, All-append, All-push}
 use Rattle.wh_words.specs.Tuples.{TupleData, IsTuple}
-use Rattle.wh_text.specs.declared.command.Command.{Command}
-use Rattle.wh_text.specs.declared.command.Command.TheVariants as commands
+use Rattle.wh_data.specs.declared.command.Command.{Command}
+use Rattle.wh_data.specs.declared.command.Command.TheVariants as commands
 use Rattle.wh_lines.specs.declared.read_error.ReadError.TheVariants as errors
 use Rattle.wh_lines.specs.Readings.{◌>>=◌, refused_as}
 use Rattle.wh_lines.specs.KeptLines.Rest.{end}
 use Rattle.wh_lines.specs.LineReadings.{Reading, end_of, end_after}
 use Rattle.wh_text.specs.RankLines.{greatest_rank, rank_at, no_rank, rank_after}
-use Rattle.wh_text.specs.AnswerData.{SideData, VerdictData, AnswerData}
-use Rattle.wh_text.specs.AnswerData.AnswerData.{reduce, decide}
+use Rattle.wh_data.specs.AnswerData.{SideData, VerdictData, AnswerData}
+use Rattle.wh_data.specs.AnswerData.AnswerData.{reduce, decide}
 use Rattle.wh_text.specs.Certificates.{tuple_after, like_after, side_after, verdict_after, AnswerRead, reduced_after, decided_after, answer_with, heading_in, heading_after, in_answer, with_end, done_after, answer_after}
 use Rattle.wh_fields.specs.TupleFields.{IsTupleOf, words_row}
-use Rattle.wh_text.specs.ReadingBack.{IsSideOf, IsVerdictOf, IsCertificate, verdict_heads, heads_of}
+use Rattle.wh_data.specs.AnswerParts.{IsSideOf, IsVerdictOf, IsCertificate, verdict_heads, heads_of}
 use Rattle.wh_fields.specs.FlowFields.{heads_from}
 use Rattle.wh_lines.proofs.Equations.{no_fields}
 use Rattle.wh_text.proofs.RankLaws.{rank_within, rank_back}
@@ -24,8 +24,8 @@ use Rattle.wh_lines.proofs.PrintedRows.{IsShown, IsShownRow}
 use Rattle.wh_lines.proofs.NextLines.{behind, line_there}
 use Rattle.wh_lines.proofs.RowReadings.{ReadsRows, Passes, passes_split, reads_none, row_then, reads_then, reads_as}
 use Rattle.wh_fields.proofs.ShownFields.{written_shown, decimal_shown}
-use Rattle.wh_text.specs.Commands.{heading_row}
-use Rattle.wh_text.specs.AnswerTexts.{side_rows, verdict_row, verdict_rows, done_row, rows_of}
+use Rattle.wh_data.specs.Commands.{heading_row}
+use Rattle.wh_data.specs.AnswerTexts.{side_rows, verdict_row, verdict_rows, done_row, rows_of}
 use Rattle.wh_text.proofs.CommandNames.{heading_back, heading_shown}
 use Rattle.wh_text.proofs.ReadSides.{tuple_read, like_read, side_told, side_read}
 use Rattle.wh_text.proofs.ReadVerdicts.{verdict_read}

@@ -9,15 +9,16 @@ use Rattle.wh_lines.specs.KeptLines.{rest}
 use Rattle.wh_lines.specs.KeptLines.Rest.{end}
 use Rattle.wh_lines.specs.LineReadings.{Reading, start}
 use Rattle.wh_lines.specs.Laws.{numbers_from}
-use Rattle.wh_text.specs.AnswerData.{CertificateData}
+use Rattle.wh_data.specs.AnswerData.{CertificateData}
 use Rattle.wh_text.specs.Certificates.{AnswerRead, answer_after, certificate}
-use Rattle.wh_text.specs.Limits.{most_answer_bytes}
-use Rattle.wh_text.specs.ReadingBack.{heads_of, ReadsBack}
+use Rattle.wh_data.specs.Limits.{most_answer_bytes}
+use Rattle.wh_data.specs.AnswerParts.{heads_of}
+use Rattle.wh_text.specs.ReadingBack.{ReadsBack}
 use Rattle.wh_lines.proofs.Equations.{is_not_more}
 use Rattle.wh_lines.specs.Rows.{Row, row_bytes, rows_text}
 use Rattle.wh_lines.proofs.PrintedRows.{rows_lines}
 use Rattle.wh_lines.proofs.RestRows.{rows_pass}
-use Rattle.wh_text.specs.AnswerTexts.{rows_of, answer_text}
+use Rattle.wh_data.specs.AnswerTexts.{rows_of, answer_text}
 use Rattle.wh_text.proofs.ReadAnswers.{TellAnswer, answer_read}
 
 -- the certificate of an answer that was read, where none of these lines is skipped

@@ -18,9 +18,9 @@ use Rattle.wh_fields.specs.FlowFields.{flow_value, FlowData, flow_in, IsFlowOf, 
 use Rattle.wh_fields.specs.TupleFields.{tuple_at, IsTupleOf, words_row}
 use Rattle.wh_lines.specs.KeptLines.{Kept}
 use Rattle.wh_lines.specs.LineReadings.{Reading, times}
-use Rattle.wh_text.specs.AnswerData.{SideData}
+use Rattle.wh_data.specs.AnswerData.{SideData}
 use Rattle.wh_text.specs.Certificates.{in_answer, tuple_after, like_after, moves_after, flow_after, SideRead, side_with, side_after}
-use Rattle.wh_text.specs.ReadingBack.{IsSideOf}
+use Rattle.wh_data.specs.AnswerParts.{IsSideOf}
 use Rattle.wh_lines.proofs.Scanning.{eq_true}
 use Rattle.wh_fields.proofs.TupleLaws.{tuple_back}
 use Rattle.wh_lines.proofs.PrintedRows.{IsShown, IsShownRow}
@@ -29,7 +29,7 @@ use Rattle.wh_lines.proofs.RowReadings.{ReadsRows, reads_none, row_then, reads_t
 use Rattle.wh_fields.proofs.ShownFields.{word_shown, kind_shown, flow_shown, written_shown}
 use Rattle.wh_fields.proofs.ReadMoves.{kind_back}
 use Rattle.wh_fields.proofs.ReadFlows.{flow_back}
-use Rattle.wh_text.specs.AnswerTexts.{side_rows}
+use Rattle.wh_data.specs.AnswerTexts.{side_rows}
 
 -- ---- moves
 kind_of : (n : ℕ) (m : Move) → IsMoveOf n m → IsKind n m.kind

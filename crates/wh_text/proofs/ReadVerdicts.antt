@@ -12,12 +12,12 @@ use Rattle.wh_lines.specs.declared.read_error.ReadError.TheVariants as errors
 use Rattle.wh_lines.specs.Lines.{Field, are}
 use Rattle.wh_lines.specs.Readings.{◌>>=◌, or_bad_line}
 use Rattle.wh_lines.specs.LineReadings.{Reading, line_after, times}
-use Rattle.wh_text.specs.AnswerData.{SideData, VerdictData}
-use Rattle.wh_text.specs.AnswerData.VerdictData.{yes, no_length, no_level, undecided}
+use Rattle.wh_data.specs.AnswerData.{SideData, VerdictData}
+use Rattle.wh_data.specs.AnswerData.VerdictData.{yes, no_length, no_level, undecided}
 use Rattle.wh_text.specs.Certificates.{like_after, moves_after, side_after, within, number_in, level_after, VerdictWord, VerdictRead, sides_after, verdict_in, verdict_with, verdict_after}
 use Rattle.wh_text.specs.Certificates.VerdictWord.{a_yes, a_no_length, a_no_level}
 use Rattle.wh_fields.specs.TupleFields.{IsTupleOf, words_row}
-use Rattle.wh_text.specs.ReadingBack.{IsSideOf, IsVerdictOf, verdict_heads}
+use Rattle.wh_data.specs.AnswerParts.{IsSideOf, IsVerdictOf, verdict_heads}
 use Rattle.wh_fields.specs.FlowFields.{heads_from}
 use Rattle.wh_lines.proofs.Equations.{split_fields, no_fields}
 use Rattle.wh_lines.proofs.NumberLaws.{reads_numbers}
@@ -26,7 +26,7 @@ use Rattle.wh_lines.proofs.PrintedRows.{IsShown, IsShownRow}
 use Rattle.wh_lines.proofs.RowReadings.{ReadsRows, row_then, reads_then, reads_as, reads_by, times_none, times_more}
 use Rattle.wh_fields.proofs.ShownFields.{written_shown, decimal_shown}
 use Rattle.wh_fields.specs.MoveFields.{moves_row}
-use Rattle.wh_text.specs.AnswerTexts.{verdict_fields, side_rows, at_rows, level_rows, verdict_row, verdict_rows}
+use Rattle.wh_data.specs.AnswerTexts.{verdict_fields, side_rows, at_rows, level_rows, verdict_row, verdict_rows}
 use Rattle.wh_text.proofs.ReadSides.{moves_read, like_read, side_told, side_read}
 
 -- ---- numbers

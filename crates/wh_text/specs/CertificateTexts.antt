@@ -13,13 +13,13 @@ use Rattle.wh_lines.specs.Laws.{IsClean, field_texts, kept_lines, kept_numbers, 
 use Rattle.wh_fields.specs.TupleFields.{words_row}
 use Rattle.wh_fields.specs.FlowFields.{FlowData}
 use Rattle.wh_fields.specs.Laws.{IsMoveField, IsFlowLine}
-use Rattle.wh_text.specs.Limits.{most_answer_bytes}
-use Rattle.wh_text.specs.AnswerData.{SideData, VerdictData, AnswerData, CertificateData}
-use Rattle.wh_text.specs.AnswerData.VerdictData.{yes, no_length, no_level, undecided}
-use Rattle.wh_text.specs.AnswerData.AnswerData.{reduce, decide}
-use Rattle.wh_text.specs.declared.command.Command.TheVariants as commands
-use Rattle.wh_text.specs.Commands.{heading_row}
-use Rattle.wh_text.specs.AnswerTexts.{verdict_row, done_row}
+use Rattle.wh_data.specs.Limits.{most_answer_bytes}
+use Rattle.wh_data.specs.AnswerData.{SideData, VerdictData, AnswerData, CertificateData}
+use Rattle.wh_data.specs.AnswerData.VerdictData.{yes, no_length, no_level, undecided}
+use Rattle.wh_data.specs.AnswerData.AnswerData.{reduce, decide}
+use Rattle.wh_data.specs.declared.command.Command.TheVariants as commands
+use Rattle.wh_data.specs.Commands.{heading_row}
+use Rattle.wh_data.specs.AnswerTexts.{verdict_row, done_row}
 use Rattle.wh_text.specs.Certificates.{certificate}
 
 -- ---- lines

@@ -1,11 +1,11 @@
 -- The text of an answer of `reduce` or `decide` that can be checked, and the first refusal of a text that isn't one.
 use Rattle.std.specs.Prelude.{ℕ, ◌==◌, leb, ltb, ◌&&◌, ◌||◌, Bool, cond, List, [], ◌∷◌, ◌++◌, length, map, Option, Some, None, is_some, Result, Ok, Err, codes}
-use Rattle.wh_text.specs.Limits.{most_answer_bytes}
+use Rattle.wh_data.specs.Limits.{most_answer_bytes}
 use Rattle.wh_words.specs.Limits.{most_level_tuples}
 use Rattle.wh_words.specs.Tuples.{TupleData}
 use Rattle.wh_words.specs.Moves.{Move}
-use Rattle.wh_text.specs.declared.command.Command.{Command}
-use Rattle.wh_text.specs.declared.command.Command.TheVariants as commands
+use Rattle.wh_data.specs.declared.command.Command.{Command}
+use Rattle.wh_data.specs.declared.command.Command.TheVariants as commands
 use Rattle.wh_lines.specs.declared.read_error.ReadError.{ReadError}
 use Rattle.wh_lines.specs.declared.read_error.ReadError.TheVariants as errors
 use Rattle.wh_lines.specs.Lines.{Field, are}
@@ -13,11 +13,11 @@ use Rattle.wh_lines.specs.Readings.{◌>>=◌, items_at, or_bad_line, refused_as
 use Rattle.wh_lines.specs.Numbers.{number}
 use Rattle.wh_fields.specs.TupleFields.{tuple_at}
 use Rattle.wh_fields.specs.FlowFields.{FlowData, flow_in}
-use Rattle.wh_text.specs.Commands.{command_named, is_unchecked_name, answer_version}
+use Rattle.wh_data.specs.Commands.{command_named, is_unchecked_name, answer_version}
 use Rattle.wh_text.specs.RankLines.{rank_after}
-use Rattle.wh_text.specs.AnswerData.{SideData, VerdictData, AnswerData, CertificateData}
-use Rattle.wh_text.specs.AnswerData.VerdictData.{yes, no_length, no_level}
-use Rattle.wh_text.specs.AnswerData.AnswerData.{reduce, decide}
+use Rattle.wh_data.specs.AnswerData.{SideData, VerdictData, AnswerData, CertificateData}
+use Rattle.wh_data.specs.AnswerData.VerdictData.{yes, no_length, no_level}
+use Rattle.wh_data.specs.AnswerData.AnswerData.{reduce, decide}
 use Rattle.wh_lines.specs.LineReadings.{Reading, start, line_after, end_after, times}
 use Rattle.wh_fields.specs.MoveFields.{move_at}
 

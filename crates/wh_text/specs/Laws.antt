@@ -5,17 +5,15 @@ use Rattle.wh_words.specs.Limits.{most_rank, most_level_rank, most_words, most_l
 use Rattle.wh_words.specs.Words.{IsOfRank}
 use Rattle.wh_words.specs.CyclicWords.{cyclic_word}
 use Rattle.wh_words.specs.Tuples.{TupleData}
-use Rattle.wh_text.specs.declared.command.Command.{Command}
-use Rattle.wh_text.specs.declared.command.Command.TheVariants as commands
+use Rattle.wh_data.specs.declared.command.Command.{Command}
+use Rattle.wh_data.specs.declared.command.Command.TheVariants as commands
 use Rattle.wh_lines.specs.declared.read_error.ReadError.TheVariants as errors
 use Rattle.wh_lines.specs.Lines.{lines, is_allowed}
 use Rattle.wh_fields.specs.Words.{word_text}
-use Rattle.wh_text.specs.Problems.{problem, reduce, decide}
-use Rattle.wh_text.specs.Limits.{most_problem_bytes}
+use Rattle.wh_data.specs.ProblemData.ProblemData.{reduce, decide}
+use Rattle.wh_text.specs.Problems.{problem}
+use Rattle.wh_data.specs.Limits.{most_problem_bytes}
 use Rattle.wh_lines.specs.Laws.{IsClean, field_texts, kept_lines}
-use Rattle.wh_text.specs.AnswerData.{AnswerData}
-use Rattle.wh_text.specs.AnswerTexts.{rows_of}
-use Rattle.wh_text.specs.Numberings.{IsAnswerOfOneRank, answer_lines}
 
 -- The line tells a rank.
 abbrev pub IsRankLine : ℕ → List ℕ → Type 0
@@ -80,8 +78,3 @@ pub record IsFirstBadByte (bytes : List ℕ) (l column : ℕ) : Type 0 where
 -- A refusal of a byte names the first one.
 abbrev pub NamesTheFirstBadByte : Type 0
 NamesTheFirstBadByte = (command : Command) (bytes : List ℕ) (l column : ℕ) → problem command bytes ≡ Err (errors.BadByte l column) → IsFirstBadByte bytes l column
-
--- ---- answers
--- Where the parts of an answer fit together, its rows are as many as its lines are said to be.
-abbrev pub CountsRows : Type 0
-CountsRows = (a : AnswerData) → IsAnswerOfOneRank a → length (rows_of a) ≡ answer_lines a

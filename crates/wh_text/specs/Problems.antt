@@ -1,6 +1,6 @@
 -- The text of a problem, and the first refusal of a text that isn't one.
 use Rattle.std.specs.Prelude.{ℕ, ◌==◌, ltb, cond, List, [], ◌∷◌, length, Result, Ok, Err, codes}
-use Rattle.wh_text.specs.Limits.{most_problem_bytes}
+use Rattle.wh_data.specs.Limits.{most_problem_bytes}
 use Rattle.wh_words.specs.Tuples.{TupleData}
 use Rattle.wh_lines.specs.declared.read_error.ReadError.{ReadError}
 use Rattle.wh_lines.specs.declared.read_error.ReadError.TheVariants as errors
@@ -10,21 +10,11 @@ use Rattle.wh_lines.specs.KeptLines.{Kept, Rest}
 use Rattle.wh_lines.specs.KeptLines.Rest.{line, bad_byte, end}
 use Rattle.wh_lines.specs.LineReadings.{Reading, start}
 use Rattle.wh_fields.specs.TupleFields.{tuple_at}
-use Rattle.wh_text.specs.declared.command.Command.{Command}
-use Rattle.wh_text.specs.declared.command.Command.TheVariants as commands
-use Rattle.wh_text.specs.declared.problem.Problem.{Problem}
-use Rattle.wh_text.specs.declared.problem.Problem.TheVariants as problems
+use Rattle.wh_data.specs.declared.command.Command.{Command}
+use Rattle.wh_data.specs.declared.command.Command.TheVariants as commands
+use Rattle.wh_data.specs.ProblemData.{ProblemData}
+use Rattle.wh_data.specs.ProblemData.ProblemData.{reduce, decide}
 use Rattle.wh_text.specs.RankLines.{rank_after}
-
--- The problem of a command, whatever room its tuples have.
-pub data ProblemData : Type 0 where
-  reduce : TupleData → ProblemData
-  decide : TupleData → TupleData → ProblemData
-
--- What a text tells of a problem: all but the room of its tuples.
-abbrev pub problem_of : Problem → ProblemData
-problem_of (problems.Reduce t) = reduce t.plain
-problem_of (problems.Decide s t) = decide s.plain t.plain
 
 -- ---- the tuples
 -- The tuple of rank n that a line tells.

@@ -6,8 +6,8 @@ use Rattle.wh_lines.specs.Lines.{Field}
 use Rattle.wh_lines.specs.Readings.{◌>>=◌, refused_as}
 use Rattle.wh_lines.specs.Numbers.{number}
 use Rattle.wh_lines.specs.LineReadings.{Reading, line_after}
-use Rattle.wh_text.specs.declared.command.Command.{Command}
-use Rattle.wh_text.specs.declared.command.Command.TheVariants as commands
+use Rattle.wh_data.specs.declared.command.Command.{Command}
+use Rattle.wh_data.specs.declared.command.Command.TheVariants as commands
 use Rattle.wh_words.specs.Limits.{most_rank, most_level_rank}
 
 -- The greatest rank of a command's problems.

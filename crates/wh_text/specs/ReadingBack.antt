@@ -1,48 +1,11 @@
--- Which answers are read back from their own text, and as what.
-use Rattle.std.specs.Prelude.{◌≡◌, ℕ, ◌<◌, ◌≤◌, List, [], ◌++◌, length, get_or, Ok}
-use Rattle.std.specs.List.{All}
-use Rattle.wh_words.specs.Limits.{most_rank, most_level_rank, most_level_tuples}
-use Rattle.wh_words.specs.Tuples.{IsTuple}
-use Rattle.wh_text.specs.AnswerTexts.{rows_of, answer_text}
-use Rattle.wh_text.specs.AnswerData.{SideData, VerdictData, AnswerData}
-use Rattle.wh_text.specs.AnswerData.VerdictData.{yes, no_length, no_level, undecided}
-use Rattle.wh_text.specs.AnswerData.AnswerData.{reduce, decide}
-use Rattle.wh_text.specs.Certificates.{certificate}
-use Rattle.wh_text.specs.Limits.{most_answer_bytes}
-use Rattle.wh_fields.specs.FlowFields.{IsFlowOf, heads_from}
-use Rattle.wh_fields.specs.MoveFields.{IsMoveOf}
-use Rattle.wh_fields.specs.TupleFields.{IsTupleOf}
+-- Answers are read back from their own text.
+use Rattle.std.specs.Prelude.{◌≡◌, ◌≤◌, length, Ok}
 use Rattle.wh_lines.specs.Laws.{numbers_from}
-
--- A side in rank n, whose end has so many words.
-pub record IsSideOf (n count : ℕ) (s : SideData) : Type 0 where
-  pub trace : All (IsMoveOf n) s.trace
-  pub end : IsTupleOf n count s.end
-  pub flows : length s.flows ≡ n
-  pub each : (g : ℕ) → g < n → IsFlowOf n g (get_or s.flows g [])
-
--- A verdict in rank n, on tuples with so many words. It isn't undecided.
-abbrev pub IsVerdictOf : ℕ → ℕ → VerdictData → Type 0
-IsVerdictOf n count (yes ms) = All (IsMoveOf n) ms
-IsVerdictOf n count (no_length a b) = IsSideOf n count a × IsSideOf n count b
-IsVerdictOf n count (no_level a b ts) = IsSideOf n count a × IsSideOf n count b × All (IsTupleOf n count) ts × (1 ≤ length ts) × (length ts ≤ most_level_tuples)
-IsVerdictOf n count (undecided bound) = ⊥
-
--- An answer that isn't undecided, of a rank that its command allows.
-abbrev pub IsCertificate : AnswerData → Type 0
-IsCertificate (reduce t s) = IsTuple t × (1 ≤ t.rank) × (t.rank ≤ most_rank) × IsSideOf t.rank (length t.words) s
-IsCertificate (decide s t v) = IsTuple s × (1 ≤ s.rank) × (s.rank ≤ most_level_rank) × IsTupleOf s.rank (length s.words) t × IsVerdictOf s.rank (length s.words) v
-
-abbrev pub verdict_heads : VerdictData → List (ℕ × ℕ)
-verdict_heads (yes ms) = []
-verdict_heads (no_length a b) = heads_from 0 a.flows ++ heads_from 0 b.flows
-verdict_heads (no_level a b ts) = heads_from 0 a.flows ++ heads_from 0 b.flows
-verdict_heads (undecided bound) = []
-
--- The letters and values that the `flow` lines of an answer name.
-abbrev pub heads_of : AnswerData → List (ℕ × ℕ)
-heads_of (reduce t s) = heads_from 0 s.flows
-heads_of (decide s t v) = verdict_heads v
+use Rattle.wh_data.specs.Limits.{most_answer_bytes}
+use Rattle.wh_data.specs.AnswerData.{AnswerData}
+use Rattle.wh_data.specs.AnswerTexts.{rows_of, answer_text}
+use Rattle.wh_data.specs.AnswerParts.{IsCertificate, heads_of}
+use Rattle.wh_text.specs.Certificates.{certificate}
 
 -- The text of an answer that is a certificate, where it isn't too long, is read back as that answer. No line of it is skipped.
 abbrev pub ReadsBack : Type 0

@@ -3,23 +3,20 @@ ghost use Rattle.std.specs.Prelude.{◌≡◌, ◌<◌, ◌≤◌, length, IfOk,
 ghost use Rattle.wh_lines.specs.declared.read_error.ReadError.TheVariants.{InputTooLong};
 ghost use Rattle.wh_lines.specs.Readings.{Gives, Refuses, refused_as};
 ghost use Rattle.wh_lines.specs.LineReadings.{Reads};
-ghost use Rattle.wh_text.specs.AnswerData.{certificate_of};
+ghost use Rattle.wh_data.specs.AnswerData.{certificate_of};
 ghost use Rattle.wh_text.specs.RankLines as ranks;
 ghost use Rattle.wh_text.specs.Certificates as spec;
 ghost use Rattle.wh_text.specs.Certificates.{certificate};
-ghost use Rattle.wh_text.specs.Limits.{most_answer_bytes};
-ghost use Rattle.wh_text.specs.Numberings.{IsNumbered};
+ghost use Rattle.wh_data.specs.Limits.{most_answer_bytes};
+ghost use Rattle.wh_data.specs.Numberings.{IsNumbered};
 
-use crate::answer::Answer;
 use crate::answer_line::{bad_line, in_answer, like_after, tuple_after};
-use crate::command::{Command, answer_version, is_unchecked_name};
-use crate::limits::MOST_ANSWER_BYTES;
-use crate::numbered::Numbered;
 use crate::rank_line::read_rank;
 use crate::side_reading::side_after;
 use crate::verdict_reading::verdict_after;
 use std::alloc::Global;
 use std::marker::Model;
+use wh_data::{Answer, Command, MOST_ANSWER_BYTES, Numbered, answer_version, is_unchecked_name};
 use wh_lines::{Field, ReadError, Reader};
 use wh_words::{Letter, List, Rank};
 
@@ -31,7 +28,7 @@ struct ReadAnswer {
 }
 
 impl Model for ReadAnswer {
-    ghost use Rattle.wh_text.specs.AnswerData.{answer_of};
+    ghost use Rattle.wh_data.specs.AnswerData.{answer_of};
     ghost use Rattle.wh_text.specs.Certificates as spec;
 
     ghost Value = { spec.AnswerRead };

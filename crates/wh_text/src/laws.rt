@@ -1,7 +1,7 @@
 //! Laws of reading, each the contract of an empty function.
 ghost use Rattle.wh_text.specs.ReadingBack.{ReadsBack};
 ghost use Rattle.wh_text.specs.CertificateTexts.{ReadsCertificates, NamesTheFirstBadLine};
-ghost use Rattle.wh_text.specs.Laws.{ReadsReduceTexts, ReadsDecideTexts, NamesTheFirstBadByte, CountsRows};
+ghost use Rattle.wh_text.specs.Laws.{ReadsReduceTexts, ReadsDecideTexts, NamesTheFirstBadByte};
 
 /// A text is accepted exactly where it is spelled as a problem of `reduce`.
 pub fn reduce_texts()
@@ -21,11 +21,6 @@ pub fn first_bad_byte()
 /// What is printed for an answer that is a certificate is read back as that answer.
 pub fn printed_answers()
     ensures { ReadsBack }
-{}
-
-/// An answer has as many rows as its lines are counted.
-pub fn row_counts()
-    ensures { CountsRows }
 {}
 
 /// A text is accepted as a certificate exactly where it is spelled as one.

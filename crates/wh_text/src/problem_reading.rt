@@ -3,14 +3,13 @@ ghost use Rattle.std.specs.Prelude.{◌≡◌, ◌<◌, ◌^◌, length, map, If
 ghost use Rattle.wh_lines.specs.declared.read_error.ReadError.TheVariants.{InputTooLong};
 ghost use Rattle.wh_lines.specs.Readings.{Gives, Refuses};
 ghost use Rattle.wh_text.specs.Problems as spec;
-ghost use Rattle.wh_text.specs.Problems.{problem, problem_of};
-ghost use Rattle.wh_text.specs.Limits.{most_problem_bytes};
+ghost use Rattle.wh_data.specs.ProblemData.{problem_of};
+ghost use Rattle.wh_text.specs.Problems.{problem};
+ghost use Rattle.wh_data.specs.Limits.{most_problem_bytes};
 
-use crate::command::Command;
-use crate::limits::MOST_PROBLEM_BYTES;
-use crate::problem::Problem;
 use crate::rank_line::read_rank;
 use std::alloc::Global;
+use wh_data::{Command, MOST_PROBLEM_BYTES, Problem};
 use wh_fields::read_tuple;
 use wh_lines::{Kept, Next, ReadError, Reader};
 use wh_words::{Rank, Tuple};

@@ -5,7 +5,7 @@ ghost use Rattle.wh_lines.specs.Readings.{Gives, refused_as};
 ghost use Rattle.wh_lines.specs.LineReadings.{Reads, line_after};
 ghost use Rattle.wh_text.specs.RankLines as spec;
 
-use crate::command::Command;
+use wh_data::Command;
 use wh_lines::{Field, Kept, ReadError, Reader, canonical_number};
 use wh_words::{MOST_LEVEL_RANK, MOST_RANK, Rank};
 

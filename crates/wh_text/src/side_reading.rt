@@ -1,13 +1,13 @@
 //! Reading of sides and levels.
 ghost use Rattle.std.specs.Prelude.{◌≡◌, map, IfOk, codes};
 ghost use Rattle.wh_lines.specs.LineReadings.{Reads};
-ghost use Rattle.wh_text.specs.AnswerData.{plains};
+ghost use Rattle.wh_data.specs.AnswerData.{plains};
 ghost use Rattle.wh_text.specs.Certificates as spec;
 
-use crate::answer::Side;
 use crate::answer_line::{flows_after, like_after, moves_after, read_number, tuples_after};
 use std::alloc::Global;
 use std::marker::Model;
+use wh_data::Side;
 use wh_fields::FlowLine;
 use wh_flow::Flow;
 use wh_lines::{ReadError, Reader};
@@ -22,7 +22,7 @@ pub struct ReadSide {
 }
 
 impl Model for ReadSide {
-    ghost use Rattle.wh_text.specs.AnswerData.{side_of};
+    ghost use Rattle.wh_data.specs.AnswerData.{side_of};
     ghost use Rattle.wh_text.specs.Certificates as spec;
 
     ghost Value = { spec.SideRead };

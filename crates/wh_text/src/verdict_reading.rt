@@ -3,15 +3,15 @@ ghost use Rattle.std.specs.Prelude.{◌≡◌, IfOk, ◌++◌};
 ghost use Rattle.wh_lines.specs.Readings.{Gives};
 ghost use Rattle.wh_lines.specs.LineReadings.{Reads};
 ghost use Rattle.wh_text.specs.Certificates as spec;
-ghost use Rattle.wh_text.specs.AnswerData.{plains};
-ghost use Rattle.wh_text.specs.AnswerData.VerdictData.{no_length, no_level};
+ghost use Rattle.wh_data.specs.AnswerData.{plains};
+ghost use Rattle.wh_data.specs.AnswerData.VerdictData.{no_length, no_level};
 ghost use Rattle.wh_text.specs.VerdictWords.{word_of};
 
-use crate::answer::Verdict;
 use crate::answer_line::moves_after;
 use crate::side_reading::{ReadSide, level_after, side_after};
 use std::alloc::Global;
 use std::marker::Model;
+use wh_data::Verdict;
 use wh_lines::{Field, ReadError, Reader, canonical_number};
 use wh_words::{Letter, List, OutOfMemory, Rank, Tuple};
 
@@ -23,7 +23,7 @@ pub struct ReadVerdict {
 }
 
 impl Model for ReadVerdict {
-    ghost use Rattle.wh_text.specs.AnswerData.{verdict_of};
+    ghost use Rattle.wh_data.specs.AnswerData.{verdict_of};
     ghost use Rattle.wh_text.specs.Certificates as spec;
 
     ghost Value = { spec.VerdictRead };

@@ -13,7 +13,7 @@ use Rattle.wh_words.specs.Moves.Kind.{cut}
 use Rattle.wh_words.specs.Action.{act, substitute}
 use Rattle.wh_words.proofs.FreeReduction.{inverse-inverse}
 use Rattle.wh_words.proofs.CutImages.{cut_image}
-use Rattle.wh_words.proofs.ImageLetters.{inverse_below}
+use Rattle.wh_words.proofs.LetterMaps.{inverse_below}
 
 -- ---- the pass
 module _ (a : ℕ) (has other : ℕ → Bool) where

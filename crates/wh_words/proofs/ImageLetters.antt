@@ -1,6 +1,6 @@
 -- The images of letters, words and tuples under a move: how long they are, and that they are of the rank.
-use Rattle.std.proofs.Common.{◌≡◌, ℕ, ◌+◌, ◌-◌, ◌*◌, ◌/◌, ◌^◌, ◌<◌, ◌≤◌, ◌==◌, Bool, true, false, cond, List, [], ◌∷◌, ◌++◌, length, get_or, map, sym, subst, arith, length-append}
-use Rattle.std.proofs.lemmas.Bool.{cond_both, eqb-true}
+use Rattle.std.proofs.Common.{◌≡◌, ℕ, ◌*◌, ◌/◌, ◌^◌, ◌<◌, ◌≤◌, ◌==◌, Bool, true, false, cond, List, [], ◌∷◌, ◌++◌, length, get_or, map, sym, subst, arith, length-append}
+use Rattle.std.proofs.lemmas.Bool.{cond_both}
 use Rattle.std.proofs.lemmas.List.{length-map}
 use Rattle.std.proofs.lemmas.List.Elements.{All-nil, All-cons, All-head, All-tail, All-append, All-map}
 use Rattle.std.proofs.lemmas.List.Sums.{sum_by-cons}
@@ -12,9 +12,10 @@ use Rattle.wh_words.specs.Words.{IsOfRank}
 use Rattle.wh_words.specs.Moves as spec
 use Rattle.wh_words.specs.Moves.{Move, IsMove, IsKind}
 use Rattle.wh_words.specs.LetterSets.{in_set}
-use Rattle.wh_words.specs.Images.{swap_letter, image}
+use Rattle.wh_words.specs.Images.{swap_letter, invert_letter, image}
 use Rattle.wh_words.specs.Action.{substitute, act}
 use Rattle.wh_words.specs.Moves.Kind.{swap, invert, cut}
+use Rattle.wh_words.proofs.LetterMaps.{inverse_below, swap_below, invert_below}
 use Rattle.wh_words.proofs.Rotations.{cyclic_word-same}
 use Rattle.wh_words.proofs.StoredWords.{cyclic_word-length, cyclic_word-of_rank}
 
@@ -45,21 +46,9 @@ pub substitute_length : (k : spec.Kind) (w : List ℕ) → length (substitute k 
 substitute_length k [] = omega arith
 substitute_length k (x ∷ w) = omega (arith, length-append (image k x) (substitute k w), image_length k x, substitute_length k w)
 
-pub inverse_below : (n x : ℕ) → x < 2 * n → inverse_letter x < 2 * n
-unfolding inverse_letter
-inverse_below n x h = omega arith
-
-swap_below : (n k x : ℕ) → k < n → x < 2 * n → swap_letter k x < 2 * n
-swap_below n k x h l =
-    cond_both (x / 2 + 1 == k) (x + 2) (cond (x / 2 == k) (x - 2) x) (λ y. y < 2 * n)
-    (λ e. omega (arith, eqb-true (x / 2 + 1) k e))
-    (λ e. cond_both (x / 2 == k) (x - 2) x (λ y. y < 2 * n) (λ f. omega arith) (λ f. omega arith))
-
 pub image_of_rank : (n : ℕ) (k : spec.Kind) (x : ℕ) → IsKind n k → x < 2 * n → IsOfRank n (image k x)
 image_of_rank n (swap k) x v h = All-cons (λ y. y < 2 * n) (swap_letter k x) [] (swap_below n k x v.1 h) (All-nil (λ y. y < 2 * n))
-image_of_rank n (invert k) x v h =
-    All-cons (λ y. y < 2 * n) (cond (x / 2 + 1 == k) (inverse_letter x) x) []
-    (cond_both (x / 2 + 1 == k) (inverse_letter x) x (λ y. y < 2 * n) (λ e. inverse_below n x h) (λ e. h)) (All-nil (λ y. y < 2 * n))
+image_of_rank n (invert k) x v h = All-cons (λ y. y < 2 * n) (invert_letter k x) [] (invert_below n k x h) (All-nil (λ y. y < 2 * n))
 image_of_rank n (cut a set) x v h =
     cond_both (x / 2 == a / 2) (x ∷ []) (around (in_set set (inverse_letter x)) (in_set set x) (inverse_letter a) a x) (IsOfRank n)
     (λ e. All-cons (λ y. y < 2 * n) x [] h (All-nil (λ y. y < 2 * n)))

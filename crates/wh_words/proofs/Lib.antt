@@ -8,6 +8,7 @@ pub mod StoredWords
 pub mod OnePass
 pub mod PassReduced
 pub mod PassRound
+pub mod LetterMaps
 pub mod ImageLetters
 pub mod CutWords
 pub mod CutImages
@@ -22,3 +23,4 @@ pub mod SameTuples
 pub mod LawProofs
 pub mod MoveLaws
 pub mod WorkedRows
+pub mod MoveLists

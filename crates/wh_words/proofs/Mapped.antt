@@ -1,6 +1,6 @@
 -- Words whose letters are exchanged: a swap or an inversion of a cyclic word keeps it cyclically reduced.
-use Rattle.std.proofs.Common.{◌≡◌, ◌≢◌, ℕ, ◌+◌, ◌-◌, ◌/◌, ◌<◌, ◌==◌, Bool, false, cond, List, [], ◌∷◌, map, refl, sym, ap, ◌∙◌, inl, inr, arith}
-use Rattle.std.proofs.lemmas.Bool.{cases_eq, true≢false, eq-eqb, ne_eqb}
+use Rattle.std.proofs.Common.{◌≡◌, ◌≢◌, ℕ, ◌+◌, ◌-◌, ◌/◌, ◌<◌, false, List, [], ◌∷◌, map, refl, sym, ap, ◌∙◌, inl, inr, arith}
+use Rattle.std.proofs.lemmas.Bool.{cases_eq, true≢false}
 use Rattle.std.proofs.lemmas.List.{map-append}
 use Rattle.wh_words.specs.Letters.{inverse_letter}
 use Rattle.wh_words.specs.CyclicWords.{cyclic_word, least_rotation, ends_cancel, IsCyclicallyReduced}
@@ -9,6 +9,7 @@ use Rattle.wh_words.specs.Images.{swap_letter, invert_letter}
 use Rattle.wh_words.specs.Action.{substitute}
 use Rattle.wh_words.specs.Moves.Kind.{swap, invert}
 use Rattle.wh_words.proofs.FreeReduction.{inverse-inverse, inverse_generator}
+use Rattle.wh_words.proofs.LetterMaps.{swap_up, swap_down, swap_stay, invert_here, invert_there}
 use Rattle.wh_words.proofs.Turning.{Ends, ends, same_ends, other_ends}
 use Rattle.wh_words.proofs.Turning.Ends.{none, one, two}
 use Rattle.wh_words.proofs.CutImages.{own_reduced, own_cyclic_reduction}
@@ -30,17 +31,6 @@ module _ (f : ℕ → ℕ) (turns : (x : ℕ) → f (inverse_letter x) ≡ inver
   map_word w e =
       let r : IsCyclicallyReduced w = own_reduced w e in
       ap least_rotation (own_cyclic_reduction (map f w) (map_reduced w r.0, map_ends w (ends w) r.1))
-
-swap_up : (k x : ℕ) → x / 2 + 1 ≡ k → swap_letter k x ≡ x + 2
-swap_up k x e = ap (λ (b : Bool). cond b (x + 2) (cond (x / 2 == k) (x - 2) x)) (eq-eqb (x / 2 + 1) k e)
-
-swap_down : (k x : ℕ) → x / 2 ≡ k → swap_letter k x ≡ x - 2
-swap_down k x e =
-    let n : x / 2 + 1 ≢ k = λ f. absurd (omega (arith, e, f)) in
-    ap (λ (b : Bool). cond b (x + 2) (cond (x / 2 == k) (x - 2) x)) (ne_eqb (x / 2 + 1) k n) ∙ ap (λ (b : Bool). cond b (x - 2) x) (eq-eqb (x / 2) k e)
-
-swap_stay : (k x : ℕ) → x / 2 + 1 ≢ k → x / 2 ≢ k → swap_letter k x ≡ x
-swap_stay k x n m = ap (λ (b : Bool). cond b (x + 2) (cond (x / 2 == k) (x - 2) x)) (ne_eqb (x / 2 + 1) k n) ∙ ap (λ (b : Bool). cond b (x - 2) x) (ne_eqb (x / 2) k m)
 
 -- where a letter goes
 data Goes (k x : ℕ) : Type 0 where
@@ -86,12 +76,6 @@ swap_apart k h x y q = go (goes k x) (goes k y)
     go (stay n m s) (up g t) = absurd (m (omega (arith, q, s, t, g)))
     go (stay n m s) (down g t) = absurd (n (omega (arith, q, s, t, g, h)))
     go (stay n m s) (stay i j t) = sym s ∙ q ∙ t
-
-invert_here : (k x : ℕ) → x / 2 + 1 ≡ k → invert_letter k x ≡ inverse_letter x
-invert_here k x e = ap (λ (b : Bool). cond b (inverse_letter x) x) (eq-eqb (x / 2 + 1) k e)
-
-invert_there : (k x : ℕ) → x / 2 + 1 ≢ k → invert_letter k x ≡ x
-invert_there k x n = ap (λ (b : Bool). cond b (inverse_letter x) x) (ne_eqb (x / 2 + 1) k n)
 
 pub invert_turns : (k x : ℕ) → invert_letter k (inverse_letter x) ≡ inverse_letter (invert_letter k x)
 invert_turns k x = elim (cases_eq (x / 2 + 1) k) [

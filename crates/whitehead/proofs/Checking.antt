@@ -4,17 +4,18 @@ use Rattle.std.specs.Prelude.{codes}
 use Rattle.clap.specs.Words.{Row, Text, Kinds, first_of, fault_of, matches_of}
 use Rattle.std.proofs.lemmas.Bool.Decides.{nat_tests}
 use Rattle.wh_words.specs.Limits.{most_level_tuples}
-use Rattle.wh_text.specs.declared.status.Status.{Status}
-use Rattle.wh_text.specs.declared.status.Status.TheVariants.{Done, No}
-use Rattle.wh_text.specs.declared.command.Command.{Command}
-use Rattle.wh_text.specs.declared.answer.Answer as answers
-use Rattle.wh_text.specs.declared.answer.Answer.TheVariants.{Reduce, Decide}
-use Rattle.wh_text.specs.declared.answer.Verdict.TheVariants as verdicts
+use Rattle.wh_data.specs.declared.status.Status.{Status}
+use Rattle.wh_data.specs.declared.status.Status.TheVariants.{Done, No}
+use Rattle.wh_data.specs.declared.command.Command.{Command}
+use Rattle.wh_data.specs.declared.answer.Answer as answers
+use Rattle.wh_data.specs.declared.answer.Answer.TheVariants.{Reduce, Decide}
+use Rattle.wh_data.specs.declared.answer.Verdict.TheVariants as verdicts
 use Rattle.wh_lines.specs.Numbers.{number}
-use Rattle.wh_text.specs.Problems.{ProblemData, problem}
-use Rattle.wh_text.specs.AnswerTexts.{answer_text}
-use Rattle.wh_text.specs.AnswerData.{answer_of}
-use Rattle.wh_text.specs.Statuses.{answer_status}
+use Rattle.wh_data.specs.ProblemData.{ProblemData}
+use Rattle.wh_text.specs.Problems.{problem}
+use Rattle.wh_data.specs.AnswerTexts.{answer_text}
+use Rattle.wh_data.specs.AnswerData.{answer_of}
+use Rattle.wh_data.specs.Statuses.{answer_status}
 use Rattle.wh_text.proofs.ReadBack.{reads_back}
 use Rattle.wh_cert.specs.declared.checked.Checked.TheVariants.{Valid}
 use Rattle.wh_answer.specs.Answers.{Answers}

@@ -2,19 +2,20 @@
 use Rattle.std.proofs.Common.{◌≡◌, ℕ, ◌≤◌, List, [], refl, sym, ap, ◌∙◌, subst, arith, Some, Ok}
 use Rattle.std.specs.Prelude.{codes}
 use Rattle.clap.specs.Words.{Text}
-use Rattle.wh_text.specs.declared.status.Status.{Status}
-use Rattle.wh_text.specs.declared.status.Status.TheVariants.{Done}
+use Rattle.wh_data.specs.declared.status.Status.{Status}
+use Rattle.wh_data.specs.declared.status.Status.TheVariants.{Done}
 use Rattle.wh_words.specs.Tuples.{TupleData, IsTuple}
 use Rattle.wh_words.specs.Levels.Reaches.{here}
 use Rattle.wh_lines.proofs.Equations.{ok_is}
-use Rattle.wh_text.specs.declared.command.Command.{Command}
-use Rattle.wh_text.specs.declared.command.Command.TheVariants as commands
-use Rattle.wh_text.specs.declared.answer.Answer as answers
-use Rattle.wh_text.specs.declared.answer.Answer.TheVariants.{Reduce, Decide}
-use Rattle.wh_text.specs.declared.answer.Verdict as verdicts
-use Rattle.wh_text.specs.Problems.{ProblemData, problem}
-use Rattle.wh_text.specs.Problems.ProblemData.{decide}
-use Rattle.wh_text.specs.Statuses.{verdict_status, answer_status}
+use Rattle.wh_data.specs.declared.command.Command.{Command}
+use Rattle.wh_data.specs.declared.command.Command.TheVariants as commands
+use Rattle.wh_data.specs.declared.answer.Answer as answers
+use Rattle.wh_data.specs.declared.answer.Answer.TheVariants.{Reduce, Decide}
+use Rattle.wh_data.specs.declared.answer.Verdict as verdicts
+use Rattle.wh_data.specs.ProblemData.{ProblemData}
+use Rattle.wh_text.specs.Problems.{problem}
+use Rattle.wh_data.specs.ProblemData.ProblemData.{decide}
+use Rattle.wh_data.specs.Statuses.{verdict_status, answer_status}
 use Rattle.wh_nielsen.proofs.Generation.{trace_ends_tell_what_is_carried, no_automorphism, no_automorphism_changes}
 use Rattle.wh_answer.specs.Answers.{Decides, Answers}
 use Rattle.wh_answer.specs.Answers.Decides.{other_lengths, one_end, too_long, too_many, joined, off_level}

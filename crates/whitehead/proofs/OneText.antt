@@ -2,11 +2,11 @@
 use Rattle.std.proofs.Common.{◌≡◌, ℕ, List, refl, sym, ap, ◌∙◌, subst, Result, Ok}
 use Rattle.wh_lines.specs.declared.read_error.ReadError.{ReadError}
 use Rattle.wh_lines.proofs.Equations.{ok_is, err_is, some_is}
-use Rattle.wh_text.specs.declared.status.Status.{Status}
+use Rattle.wh_data.specs.declared.status.Status.{Status}
 use Rattle.wh_text.specs.RefusalTexts.{refusal_text}
 use Rattle.wh_answer.specs.Answers.{Answers}
 use Rattle.wh_answer.proofs.OneAnswer.{answer_one}
-use Rattle.wh_text.specs.AnswerData.{CertificateData}
+use Rattle.wh_data.specs.AnswerData.{CertificateData}
 use Rattle.wh_cert.specs.declared.checked.Checked.{Checked}
 use Rattle.wh_cert.specs.Checks.{Checks}
 use Rattle.wh_cert.proofs.OneVerdict.{finds_one}

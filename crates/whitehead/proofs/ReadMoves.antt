@@ -6,9 +6,9 @@ use Rattle.wh_words.specs.Limits.{most_rank}
 use Rattle.wh_words.specs.Moves.{Move, IsKind}
 use Rattle.wh_lines.specs.Rows.{Row}
 use Rattle.wh_fields.proofs.MoveLaws.{spelled_kind}
-use Rattle.wh_text.specs.AnswerData.{SideData, VerdictData, AnswerData, CertificateData}
-use Rattle.wh_text.specs.AnswerData.VerdictData.{yes, no_length, no_level, undecided}
-use Rattle.wh_text.specs.AnswerData.AnswerData.{reduce, decide}
+use Rattle.wh_data.specs.AnswerData.{SideData, VerdictData, AnswerData, CertificateData}
+use Rattle.wh_data.specs.AnswerData.VerdictData.{yes, no_length, no_level, undecided}
+use Rattle.wh_data.specs.AnswerData.AnswerData.{reduce, decide}
 use Rattle.wh_text.specs.Certificates.{certificate}
 use Rattle.wh_text.specs.CertificateTexts.{AreMoveFields, IsMovesRow, IsSideText, IsVerdictText, IsAnswerText}
 use Rattle.wh_text.proofs.ExactCertificates.{reads_certificates}

@@ -2,15 +2,16 @@
 use Rattle.std.proofs.Common.{◌≡◌, ℕ, ◌==◌, ltb, List, length, sym, ap, subst, Ok}
 use Rattle.wh_words.specs.Tuples.{TupleData, IsTuple}
 use Rattle.wh_words.proofs.StoredWords.{IsTuple-of}
-use Rattle.wh_text.specs.declared.command.Command.{Command}
-use Rattle.wh_text.specs.declared.command.Command.TheVariants as commands
+use Rattle.wh_data.specs.declared.command.Command.{Command}
+use Rattle.wh_data.specs.declared.command.Command.TheVariants as commands
 use Rattle.wh_lines.specs.declared.read_error.ReadError.TheVariants as errors
 use Rattle.wh_lines.specs.LineReadings.{start}
 use Rattle.wh_lines.specs.Readings.{◌>>=◌}
 use Rattle.wh_text.specs.RankLines.{rank_after}
-use Rattle.wh_text.specs.Problems.{ProblemData, problem, problem_after, problem_with, tuples_of, one_tuple, two_tuples, decide_both}
-use Rattle.wh_text.specs.Limits.{most_problem_bytes}
-use Rattle.wh_text.specs.Problems.ProblemData.{reduce, decide}
+use Rattle.wh_data.specs.ProblemData.{ProblemData}
+use Rattle.wh_text.specs.Problems.{problem, problem_after, problem_with, tuples_of, one_tuple, two_tuples, decide_both}
+use Rattle.wh_data.specs.Limits.{most_problem_bytes}
+use Rattle.wh_data.specs.ProblemData.ProblemData.{reduce, decide}
 use Rattle.wh_text.specs.Laws.{IsTupleLine}
 use Rattle.wh_lines.proofs.Equations.{bind_ok, ok_is, if_ok, unless_ok}
 use Rattle.wh_text.proofs.ProblemLaws.{reads_reduce_texts, reads_decide_texts}

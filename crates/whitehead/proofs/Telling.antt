@@ -3,14 +3,14 @@ use Rattle.std.proofs.Common.{ℕ, inl, inr, List, sym, subst}
 use Rattle.std.specs.declared.option.Option.{Option}
 use Rattle.clap.specs.Words.{Text}
 use Rattle.wh_io.specs.Device.{Consumed}
-use Rattle.wh_text.specs.declared.status.Status.{Status}
-use Rattle.wh_text.specs.declared.status.Status.TheVariants.{Done, No, Refused, Undecided, ReadFault, WriteFault, OutOfMemory}
-use Rattle.wh_text.specs.declared.answer.Answer.{Answer}
-use Rattle.wh_text.specs.declared.answer.Answer.TheVariants.{Reduce, Decide}
-use Rattle.wh_text.specs.declared.answer.Verdict.{Verdict}
-use Rattle.wh_text.specs.declared.answer.Verdict.TheVariants.{Yes, NoLength, NoLevel}
-use Rattle.wh_text.specs.declared.answer.Verdict.TheVariants as verdicts
-use Rattle.wh_text.specs.Statuses.{verdict_status, answer_status}
+use Rattle.wh_data.specs.declared.status.Status.{Status}
+use Rattle.wh_data.specs.declared.status.Status.TheVariants.{Done, No, Refused, Undecided, ReadFault, WriteFault, OutOfMemory}
+use Rattle.wh_data.specs.declared.answer.Answer.{Answer}
+use Rattle.wh_data.specs.declared.answer.Answer.TheVariants.{Reduce, Decide}
+use Rattle.wh_data.specs.declared.answer.Verdict.{Verdict}
+use Rattle.wh_data.specs.declared.answer.Verdict.TheVariants.{Yes, NoLength, NoLevel}
+use Rattle.wh_data.specs.declared.answer.Verdict.TheVariants as verdicts
+use Rattle.wh_data.specs.Statuses.{verdict_status, answer_status}
 use Rattle.wh_cert.specs.declared.checked.Checked.{Checked}
 use Rattle.wh_cert.specs.declared.checked.Checked.TheVariants.{Valid, Invalid}
 use Rattle.whitehead.specs.Endings.{Finished}

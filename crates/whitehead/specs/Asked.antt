@@ -2,8 +2,8 @@
 use Rattle.std.specs.Prelude.{◌≡◌, ℕ, leb, ◌&&◌, cond, List, [], ◌∷◌, Option, Some, None, Result, Ok, Err, codes}
 use Rattle.clap.specs.Words.{Row, Text, Kinds, first_of, fault_of, matches_of}
 use Rattle.wh_words.specs.Limits.{most_level_tuples}
-use Rattle.wh_text.specs.declared.command.Command.{Command}
-use Rattle.wh_text.specs.Commands.{command_named}
+use Rattle.wh_data.specs.declared.command.Command.{Command}
+use Rattle.wh_data.specs.Commands.{command_named}
 use Rattle.wh_lines.specs.Numbers.{number}
 use Rattle.wh_lines.specs.Lines.{are}
 use Rattle.whitehead.specs.Limits.{standing_limit, most_workers, standing_workers}

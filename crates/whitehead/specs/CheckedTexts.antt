@@ -1,7 +1,7 @@
 -- What is told of a certificate.
 use Rattle.std.specs.Prelude.{ℕ, List, ◌++◌, codes, decimal}
-use Rattle.wh_text.specs.declared.status.Status.{Status}
-use Rattle.wh_text.specs.declared.status.Status.TheVariants.{Done, No}
+use Rattle.wh_data.specs.declared.status.Status.{Status}
+use Rattle.wh_data.specs.declared.status.Status.TheVariants.{Done, No}
 use Rattle.wh_cert.specs.Rules.{rule_name}
 use Rattle.wh_cert.specs.declared.checked.Checked.{Checked}
 use Rattle.wh_cert.specs.declared.checked.Checked.TheVariants.{Valid, Invalid}

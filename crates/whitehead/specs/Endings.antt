@@ -2,8 +2,8 @@
 use Rattle.std.specs.Prelude.{◌≡◌, ℕ, ◌⊎◌, List}
 use Rattle.std.specs.declared.option.Option.{Option}
 use Rattle.wh_io.specs.Device.{next_count}
-use Rattle.wh_text.specs.declared.status.Status.{Status}
-use Rattle.wh_text.specs.declared.status.Status.TheVariants.{WriteFault}
+use Rattle.wh_data.specs.declared.status.Status.{Status}
+use Rattle.wh_data.specs.declared.status.Status.TheVariants.{WriteFault}
 use Rattle.whitehead.specs.Streams.{IsWritten, IsPartWritten}
 
 -- The text is written, the status stands and the sink didn't fail; or a prefix of it is taken, and the sink failed.

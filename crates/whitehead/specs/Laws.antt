@@ -1,9 +1,9 @@
 -- What holds of all runs, as statements that contracts name.
 use Rattle.std.specs.Prelude.{◌≡◌, ◌⊎◌, ℕ, List, Some, codes}
 use Rattle.clap.specs.Words.{Text}
-use Rattle.wh_text.specs.declared.status.Status.{Status}
-use Rattle.wh_text.specs.declared.status.Status.TheVariants.{Done, No}
-use Rattle.wh_text.specs.declared.command.Command.{Command}
+use Rattle.wh_data.specs.declared.status.Status.{Status}
+use Rattle.wh_data.specs.declared.status.Status.TheVariants.{Done, No}
+use Rattle.wh_data.specs.declared.command.Command.{Command}
 use Rattle.whitehead.specs.declared.arguments.Arguments.{Arguments}
 use Rattle.whitehead.specs.declared.arguments.Task.TheVariants.{Answer, Check}
 use Rattle.whitehead.specs.Asked.{asked}

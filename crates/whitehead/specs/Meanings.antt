@@ -2,12 +2,12 @@
 use Rattle.std.specs.Prelude.{◌≡◌, ℕ, List, Some, Ok}
 use Rattle.clap.specs.Words.{Text}
 use Rattle.wh_words.specs.Tuples.{TupleData}
-use Rattle.wh_text.specs.declared.status.Status.{Status}
-use Rattle.wh_text.specs.declared.status.Status.TheVariants.{Done, No, Refused, Undecided, ReadFault, WriteFault, OutOfMemory}
-use Rattle.wh_text.specs.declared.command.Command.TheVariants as commands
+use Rattle.wh_data.specs.declared.status.Status.{Status}
+use Rattle.wh_data.specs.declared.status.Status.TheVariants.{Done, No, Refused, Undecided, ReadFault, WriteFault, OutOfMemory}
+use Rattle.wh_data.specs.declared.command.Command.TheVariants as commands
 use Rattle.wh_text.specs.Problems.{problem}
-use Rattle.wh_text.specs.Problems.ProblemData.{decide}
-use Rattle.wh_text.specs.AnswerData.{CertificateData}
+use Rattle.wh_data.specs.ProblemData.ProblemData.{decide}
+use Rattle.wh_data.specs.AnswerData.{CertificateData}
 use Rattle.wh_text.specs.Certificates.{certificate as certificate_in}
 use Rattle.wh_nielsen.specs.Automorphisms.{IsCarried}
 use Rattle.wh_answer.specs.Certified.{Shows}

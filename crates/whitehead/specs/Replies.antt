@@ -1,15 +1,16 @@
 -- What is replied to the bytes of an input.
 use Rattle.std.specs.Prelude.{◌≡◌, ℕ, List, Ok, Err}
-use Rattle.wh_text.specs.declared.command.Command.{Command}
-use Rattle.wh_text.specs.declared.status.Status.{Status}
-use Rattle.wh_text.specs.declared.status.Status.TheVariants.{Refused}
-use Rattle.wh_text.specs.declared.answer.Answer as answers
+use Rattle.wh_data.specs.declared.command.Command.{Command}
+use Rattle.wh_data.specs.declared.status.Status.{Status}
+use Rattle.wh_data.specs.declared.status.Status.TheVariants.{Refused}
+use Rattle.wh_data.specs.declared.answer.Answer as answers
 use Rattle.wh_lines.specs.declared.read_error.ReadError.{ReadError}
-use Rattle.wh_text.specs.Problems.{ProblemData, problem}
-use Rattle.wh_text.specs.AnswerTexts.{answer_text}
-use Rattle.wh_text.specs.Statuses.{answer_status}
+use Rattle.wh_data.specs.ProblemData.{ProblemData}
+use Rattle.wh_text.specs.Problems.{problem}
+use Rattle.wh_data.specs.AnswerTexts.{answer_text}
+use Rattle.wh_data.specs.Statuses.{answer_status}
 use Rattle.wh_text.specs.RefusalTexts.{refusal_text}
-use Rattle.wh_text.specs.AnswerData.{CertificateData, answer_of}
+use Rattle.wh_data.specs.AnswerData.{CertificateData, answer_of}
 use Rattle.wh_text.specs.Certificates.{certificate}
 use Rattle.wh_cert.specs.declared.checked.Checked.{Checked}
 use Rattle.wh_cert.specs.Checks.{Checks}

@@ -1,16 +1,17 @@
 //! The reply to the bytes of an input.
 ghost use Rattle.std.specs.Prelude.{◌≡◌, ◌≢◌, ℕ, IfOk, Ok};
 ghost use Rattle.std.specs.Prelude as prelude;
-ghost use Rattle.wh_text.specs.declared.command.Command.{Command};
-ghost use Rattle.wh_text.specs.declared.status.Status.TheVariants.{Refused};
+ghost use Rattle.wh_data.specs.declared.command.Command.{Command};
+ghost use Rattle.wh_data.specs.declared.status.Status.TheVariants.{Refused};
 ghost use Rattle.wh_lines.specs.declared.read_error.ReadError.TheVariants as errors;
-ghost use Rattle.wh_text.specs.Problems.{problem_of, problem as stated};
-ghost use Rattle.wh_text.specs.AnswerTexts.{answer_text, IsPrintable};
-ghost use Rattle.wh_text.specs.AnswerData.{answer_of, certificate_of};
+ghost use Rattle.wh_data.specs.ProblemData.{problem_of};
+ghost use Rattle.wh_text.specs.Problems.{problem as stated};
+ghost use Rattle.wh_data.specs.AnswerTexts.{answer_text, IsPrintable};
+ghost use Rattle.wh_data.specs.AnswerData.{answer_of, certificate_of};
 ghost use Rattle.wh_text.specs.Certificates.{certificate};
-ghost use Rattle.wh_text.specs.Numberings.{IsNumbered};
+ghost use Rattle.wh_data.specs.Numberings.{IsNumbered};
 ghost use Rattle.wh_text.specs.RefusalTexts.{refusal_text};
-ghost use Rattle.wh_text.specs.Statuses.{answer_status};
+ghost use Rattle.wh_data.specs.Statuses.{answer_status};
 ghost use Rattle.wh_answer.specs.Answers.{IsAnswerable};
 ghost use Rattle.whitehead.specs.declared.arguments.Task.TheVariants as tasks;
 ghost use Rattle.whitehead.specs.Replies.{Replies};

@@ -1,5 +1,5 @@
 use Rattle.std.proofs.Common.{IfOk, sym, subst}
-use Rattle.wh_text.specs.Problems.{problem_of}
+use Rattle.wh_data.specs.ProblemData.{problem_of}
 use Rattle.wh_answer.specs.Answers.{Answers}
 use Rattle.wh_answer.proofs.answering.answer.Goals as goal
 

@@ -1,8 +1,8 @@
 use Rattle.std.proofs.Common.{◌≤◌, rules, ap}
 use Rattle.wh_words.specs.Limits.{most_level_rank}
 use Rattle.wh_words.specs.Tuples.{Tuple}
-use Rattle.wh_text.specs.declared.answer.Answer.TheVariants as answers
-use Rattle.wh_text.specs.Problems.ProblemData.{decide}
+use Rattle.wh_data.specs.declared.answer.Answer.TheVariants as answers
+use Rattle.wh_data.specs.ProblemData.ProblemData.{decide}
 use Rattle.wh_answer.proofs.Valid.{answers_valid}
 use Rattle.wh_answer.proofs.answering.decided.Goals as goal
 

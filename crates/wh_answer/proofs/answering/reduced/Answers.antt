@@ -1,7 +1,7 @@
 use Rattle.std.proofs.Common.{◌≤◌, rules, ap}
 use Rattle.wh_words.specs.Tuples.{Tuple}
-use Rattle.wh_text.specs.declared.answer.Answer.TheVariants as answers
-use Rattle.wh_text.specs.Problems.ProblemData.{reduce}
+use Rattle.wh_data.specs.declared.answer.Answer.TheVariants as answers
+use Rattle.wh_data.specs.ProblemData.ProblemData.{reduce}
 use Rattle.wh_answer.proofs.Valid.{answers_valid}
 use Rattle.wh_answer.proofs.answering.reduced.Goals as goal
 

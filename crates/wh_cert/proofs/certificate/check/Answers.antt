@@ -1,5 +1,5 @@
 use Rattle.std.proofs.Common.{◌<◌, List, ℕ, length, rules, ap, subst, arith}
-use Rattle.wh_text.specs.AnswerData.{answer_of, certificate_of}
+use Rattle.wh_data.specs.AnswerData.{answer_of, certificate_of}
 use Rattle.wh_cert.specs.Demands.{asked}
 use Rattle.wh_cert.specs.Judged.{Judges}
 use Rattle.wh_cert.proofs.Numbering.{judged_line}

@@ -1,7 +1,7 @@
 use Rattle.std.proofs.Common.{◌≡◌, ℕ, ◌+◌, ◌*◌, rules, refl, subst, ◌↔◌, IsTrue, nat_eq, arith}
 use Rattle.wh_words.specs.Tuples.{tuple_length}
-use Rattle.wh_text.specs.AnswerData.{side_of, plains}
-use Rattle.wh_text.specs.Numberings.{side_lines}
+use Rattle.wh_data.specs.AnswerData.{side_of, plains}
+use Rattle.wh_data.specs.Numberings.{side_lines}
 use Rattle.wh_cert.specs.Demands.{lengths_agree, sides_asked, level_asked}
 use Rattle.wh_cert.specs.Judged.{Judges}
 use Rattle.wh_cert.proofs.Judging.{met_ok, stopped_first, judged_after}

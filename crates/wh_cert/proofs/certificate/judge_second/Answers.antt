@@ -1,5 +1,5 @@
 use Rattle.std.proofs.Common.{ℕ, ◌+◌, List, [], ◌∷◌, rules, ◌∙◌, subst}
-use Rattle.wh_text.specs.AnswerData.{side_of}
+use Rattle.wh_data.specs.AnswerData.{side_of}
 use Rattle.wh_cert.specs.Demands.{Placed, trace_asked, flows_asked}
 use Rattle.wh_cert.specs.Judged.{Judges}
 use Rattle.wh_cert.proofs.Judging.{met_ok, stopped_first, judged_after}

@@ -1,5 +1,5 @@
 use Rattle.std.proofs.Common.{◌+◌, rules}
-use Rattle.wh_text.specs.AnswerData.{side_of}
+use Rattle.wh_data.specs.AnswerData.{side_of}
 use Rattle.wh_cert.specs.Demands.{trace_asked, flows_asked}
 use Rattle.wh_cert.proofs.Judging.{met_ok, stopped_first, judged_after}
 use Rattle.wh_cert.proofs.certificate.judge_side.Goals as goal

@@ -1,6 +1,6 @@
 use Rattle.std.proofs.Common.{◌≡◌, ℕ, ◌+◌, ◌∷◌, ◌++◌, rules, subst, arith}
-use Rattle.wh_text.specs.AnswerData.{side_of}
-use Rattle.wh_text.specs.Numberings.{side_lines}
+use Rattle.wh_data.specs.AnswerData.{side_of}
+use Rattle.wh_data.specs.Numberings.{side_lines}
 use Rattle.wh_cert.specs.Demands.{Demand, trace_asked, flows_asked, side_asked}
 use Rattle.wh_cert.specs.Judged.{Judges}
 use Rattle.wh_cert.proofs.Judging.{met_ok, stopped_first, judged_after}

@@ -1,9 +1,9 @@
 use Rattle.std.proofs.Common.{◌≡◌, ℕ, List, sym, subst}
 use Rattle.std.specs.List.{All}
 use Rattle.wh_words.specs.Tuples.{Tuple}
-use Rattle.wh_text.specs.AnswerData.{plains, side_of, verdict_of}
-use Rattle.wh_text.specs.AnswerData.VerdictData.{no_level}
-use Rattle.wh_text.specs.Numberings.{IsVerdictOfRank}
+use Rattle.wh_data.specs.AnswerData.{plains, side_of, verdict_of}
+use Rattle.wh_data.specs.AnswerData.VerdictData.{no_level}
+use Rattle.wh_data.specs.Numberings.{IsVerdictOfRank}
 use Rattle.wh_cert.proofs.Rising.{low_ranks}
 use Rattle.wh_cert.proofs.certificate.judge_verdict.Goals as goal
 

@@ -1,7 +1,7 @@
 use Rattle.std.proofs.Common.{◌+◌, [], ◌∷◌, length, rules, refl, ◌↔◌, IsTrue}
 use Rattle.std.specs.Prelude.{Contains}
 use Rattle.wh_sets.proofs.Additions.{same_tuples}
-use Rattle.wh_text.specs.AnswerData.{plains}
+use Rattle.wh_data.specs.AnswerData.{plains}
 use Rattle.wh_cert.specs.Demands.{has_root, asked_below, at_asked}
 use Rattle.wh_cert.proofs.Judging.{met_ok, stopped_first, judged_after}
 use Rattle.wh_cert.proofs.levels.judge_level.Goals as goal

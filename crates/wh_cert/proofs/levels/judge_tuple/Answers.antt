@@ -1,6 +1,6 @@
 use Rattle.std.proofs.Common.{◌≡◌, ◌≢◌, not, [], ◌∷◌, rules, refl, ap, ◌∙◌, subst, ◌↔◌, IsTrue, nat_eq}
 use Rattle.wh_words.specs.Tuples.{TupleData, tuple_length}
-use Rattle.wh_text.specs.AnswerData.{plains}
+use Rattle.wh_data.specs.AnswerData.{plains}
 use Rattle.wh_cert.specs.Demands.{rises, has_height, is_absent, tuple_at}
 use Rattle.wh_cert.proofs.Judging.{met_ok, stopped_first, judged_after}
 use Rattle.wh_cert.proofs.Rising.{plain_at, numbers_tested, differ_tested}

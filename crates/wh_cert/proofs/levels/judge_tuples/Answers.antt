@@ -1,7 +1,7 @@
 use Rattle.std.proofs.Common.{◌≡◌, ℕ, ◌+◌, [], ◌∷◌, List, length, rules, subst, arith}
 use Rattle.std.proofs.lemmas.List.{length-map}
 use Rattle.wh_words.specs.Tuples.{TupleData, Tuple}
-use Rattle.wh_text.specs.AnswerData.{plains}
+use Rattle.wh_data.specs.AnswerData.{plains}
 use Rattle.wh_cert.specs.Demands.{Placed, rises, has_height, is_absent, is_closed, tuple_at, asked_below, at_asked}
 use Rattle.wh_cert.specs.Checks.{AreMet}
 use Rattle.wh_cert.specs.Judged.{Judges}

@@ -1,4 +1,4 @@
-use Rattle.wh_text.specs.AnswerData.{plains}
+use Rattle.wh_data.specs.AnswerData.{plains}
 use Rattle.wh_cert.specs.Demands.{asked_below, at_asked}
 use Rattle.wh_cert.specs.Checks.{AreMet}
 use Rattle.wh_cert.specs.Listings.{IsRoomy}

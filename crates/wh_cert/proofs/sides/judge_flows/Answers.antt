@@ -1,6 +1,6 @@
 use Rattle.std.proofs.Common.{rules, ℕ, ◌+◌, List, [], get_or, sym, ap, ◌∙◌, arith}
 use Rattle.std.proofs.lemmas.List.{get_or_default}
-use Rattle.wh_text.specs.AnswerData.{side_of}
+use Rattle.wh_data.specs.AnswerData.{side_of}
 use Rattle.wh_cert.specs.Demands.{flow_asked}
 use Rattle.wh_cert.specs.Judged.{Judges}
 use Rattle.wh_cert.proofs.Judging.{none_asked, judged_in_turn, met_in_turn}

@@ -1,4 +1,4 @@
-use Rattle.wh_text.specs.AnswerData.{side_of}
+use Rattle.wh_data.specs.AnswerData.{side_of}
 use Rattle.wh_cert.specs.Demands.{asked_below, flow_asked}
 use Rattle.wh_cert.specs.Checks.{AreMet}
 use Rattle.wh_cert.proofs.sides.judge_flows.Given as goal

@@ -1,5 +1,5 @@
 use Rattle.std.proofs.Common.{rules}
-use Rattle.wh_text.specs.declared.status.Status.TheVariants.{Refused}
+use Rattle.wh_data.specs.declared.status.Status.TheVariants.{Refused}
 use Rattle.wh_text.specs.RefusalTexts.{refusal_text}
 use Rattle.whitehead.specs.declared.arguments.Task.TheVariants as tasks
 use Rattle.whitehead.specs.Replies.{Replies}

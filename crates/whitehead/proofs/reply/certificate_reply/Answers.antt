@@ -1,5 +1,5 @@
 use Rattle.std.proofs.Common.{◌∙◌, sym, subst, List, ℕ}
-use Rattle.wh_text.specs.declared.status.Status.{Status}
+use Rattle.wh_data.specs.declared.status.Status.{Status}
 use Rattle.whitehead.specs.declared.arguments.Task.TheVariants as tasks
 use Rattle.whitehead.specs.CheckedTexts.{checked_text}
 use Rattle.whitehead.specs.Replies.{Replies}

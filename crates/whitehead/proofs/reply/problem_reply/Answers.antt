@@ -1,6 +1,6 @@
-use Rattle.wh_text.specs.AnswerTexts.{answer_text}
-use Rattle.wh_text.specs.AnswerData.{answer_of}
-use Rattle.wh_text.specs.Statuses.{answer_status}
+use Rattle.wh_data.specs.AnswerTexts.{answer_text}
+use Rattle.wh_data.specs.AnswerData.{answer_of}
+use Rattle.wh_data.specs.Statuses.{answer_status}
 use Rattle.whitehead.specs.declared.arguments.Task.TheVariants as tasks
 use Rattle.whitehead.specs.Replies.{Replies}
 use Rattle.whitehead.specs.Replies.Replies.{answered}

@@ -1,0 +1,66 @@
+-- What is known of a certificate that was read: its parts fit together, and its lines are numbered.
+use Rattle.std.specs.Prelude.{◌≡◌, ℕ, ◌+◌, ◌*◌, ◌≤◌, length}
+use Rattle.std.specs.List.{All}
+use Rattle.wh_data.specs.AnswerTexts.{head_rows}
+use Rattle.wh_data.specs.AnswerData.{SideData, VerdictData, AnswerData, CertificateData}
+use Rattle.wh_data.specs.AnswerData.VerdictData.{yes, no_length, no_level, undecided}
+use Rattle.wh_data.specs.AnswerData.AnswerData.{reduce, decide}
+use Rattle.wh_words.specs.Limits.{most_level_rank}
+
+-- ---- ranks
+-- The end, the moves and the flows of a side are of rank n.
+pub record IsSideOfRank (n : ℕ) (s : SideData) : Type 0 where
+  pub end : s.end.rank ≡ n
+  pub moves : All (λ m. m.rank ≡ n) s.trace
+  pub flows : length s.flows ≡ n
+
+-- A level comes with low ranks alone.
+abbrev pub IsVerdictOfRank : ℕ → VerdictData → Type 0
+IsVerdictOfRank n (yes ms) = All (λ m. m.rank ≡ n) ms
+IsVerdictOfRank n (no_length a b) = IsSideOfRank n a × IsSideOfRank n b
+IsVerdictOfRank n (no_level a b ts) = IsSideOfRank n a × IsSideOfRank n b × All (λ t. t.rank ≡ n) ts × (n ≤ most_level_rank)
+IsVerdictOfRank n (undecided bound) = ⊥
+
+-- All parts of an answer are of one rank, and it isn't undecided.
+abbrev pub IsAnswerOfOneRank : AnswerData → Type 0
+IsAnswerOfOneRank (reduce t s) = IsSideOfRank t.rank s
+IsAnswerOfOneRank (decide s t v) = (t.rank ≡ s.rank) × IsVerdictOfRank s.rank v
+
+-- ---- lines
+-- How many lines a side of rank n has.
+abbrev pub side_lines : ℕ → ℕ
+side_lines n = n + 2
+
+-- How many lines of a text aren't skipped after the verdict, without the last.
+abbrev pub verdict_lines : ℕ → VerdictData → ℕ
+verdict_lines n (yes ms) = 1
+verdict_lines n (no_length a b) = 2 * side_lines n
+verdict_lines n (no_level a b ts) = 2 * side_lines n + 1 + length ts
+verdict_lines n (undecided bound) = 0
+
+-- How many lines stand before the sides.
+abbrev pub head_lines : AnswerData → ℕ
+head_lines a = length (head_rows a)
+
+-- How many lines of the text of an answer aren't skipped.
+abbrev pub answer_lines : AnswerData → ℕ
+answer_lines (reduce t s) = head_lines (reduce t s) + side_lines t.rank + 1
+answer_lines (decide s t v) = head_lines (decide s t v) + verdict_lines s.rank v + 1
+
+-- How many `flow` lines a verdict has.
+abbrev pub verdict_flows : ℕ → VerdictData → ℕ
+verdict_flows n (yes ms) = 0
+verdict_flows n (no_length a b) = 2 * n
+verdict_flows n (no_level a b ts) = 2 * n
+verdict_flows n (undecided bound) = 0
+
+-- How many `flow` lines the text of an answer has.
+abbrev pub flow_lines : AnswerData → ℕ
+flow_lines (reduce t s) = t.rank
+flow_lines (decide s t v) = verdict_flows s.rank v
+
+-- The parts of a certificate are of one rank, and it has a number for each line, and a letter and a value for each `flow` line.
+pub record IsNumbered (c : CertificateData) : Type 0 where
+  pub answer : IsAnswerOfOneRank c.answer
+  pub lines : length c.lines ≡ answer_lines c.answer
+  pub heads : length c.flow_heads ≡ flow_lines c.answer

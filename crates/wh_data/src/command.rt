@@ -1,0 +1,53 @@
+//! Commands of the program, and the headings of their answers.
+ghost use Rattle.std.specs.Prelude.{◌≡◌};
+ghost use Rattle.wh_data.specs.Commands.{command_name, command_named, answer_version, is_unchecked_name};
+
+/// What is asked for.
+#[derive(Clone, Copy, PartialEq, Eq, Debug)]
+pub enum Command {
+    /// A trace from a tuple to one that no cut shortens, with its end.
+    Reduce,
+    /// Whether moves carry one tuple onto another.
+    Decide,
+}
+
+impl Command {
+    /// Its name, on the command line and in headings.
+    pub fn name(self) -> &'static [u8]
+        ensures { result.now ≡ command_name self }
+    {
+        match self {
+            Command::Reduce => b"reduce",
+            Command::Decide => b"decide",
+        }
+    }
+
+    /// The command of a name, where there is one.
+    pub fn named(name: &[u8]) -> Option<Command>
+        ensures { result ≡ command_named name.now }
+    {
+        if name == Command::Reduce.name() {
+            Some(Command::Reduce)
+        } else if name == Command::Decide.name() {
+            Some(Command::Decide)
+        } else {
+            None
+        }
+    }
+}
+
+/// The version of the form of answers.
+pub fn answer_version() -> &'static [u8]
+    ensures { result.now ≡ answer_version }
+{
+    b"1"
+}
+
+/// Whether a name is one of a command whose answers aren't certificates.
+pub fn is_unchecked_name(name: &[u8]) -> bool
+    ensures { result ≡ is_unchecked_name name.now }
+{
+    name == b"straighten".as_slice()
+        || name == b"stabiliser".as_slice()
+        || name == b"gen".as_slice()
+}
