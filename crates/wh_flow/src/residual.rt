@@ -188,14 +188,26 @@ fn note_edge(cap: &Table, flow: &Table, from: usize, successors: &mut [u64], x: 
     ensures here { in_set (get_or successors.new x 0) y ≡ ltb 0 (residual cap.now flow.now from x y) }
     ensures others { (v z : ℕ) → v < 52 → z < 64 → (v ≢ x) ⊎ (z ≢ y) → in_set (get_or successors.new v 0) z ≡ in_set (get_or successors.old v 0) z }
 {
-    let set = LetterSet::of_bits(successors[x]);
+    successors[x] = noted(
+        successors[x],
+        y,
+        residual_capacity(cap, flow, from, x, y) > 0,
+    );
+}
+
+/// The mask of a set of letters with `y` where an edge leads to it, and without it where none does.
+fn noted(mask: u64, y: usize, leads: bool) -> u64
+    requires { y < 52 }
+    ensures here { in_set result y ≡ leads }
+    ensures others { (z : ℕ) → z < 64 → z ≢ y → in_set result z ≡ in_set mask z }
+{
+    let set = LetterSet::of_bits(mask);
     let letter = Letter::of_index(y as u8);
-    let noted = if residual_capacity(cap, flow, from, x, y) > 0 {
-        set.with(letter)
+    if leads {
+        set.with(letter).bits()
     } else {
-        set.without(letter)
-    };
-    successors[x] = noted.bits();
+        set.without(letter).bits()
+    }
 }
 
 /// The residual capacity from `x` to `y`, at the pairs from a place on: how much more can go.

@@ -53,6 +53,19 @@ impl MemSource {
             faults: 0,
         }
     }
+
+    /// Puts the next bytes at the front of `into`, as many as there are and as are allowed, and answers how many.
+    fn give(&mut self, into: &mut [u8]) -> usize
+        ensures count { result ≡ min self.old.most (min (length into.new) (length self.old.bytes_left)) }
+        ensures bytes { into.new ≡ take result self.old.bytes_left ++ drop result into.old }
+        ensures given { self.new ≡ record self.old { bytes_left = drop result self.old.bytes_left } }
+    {
+        let rest = &self.bytes[self.position..];
+        let count = self.most.min(into.len()).min(rest.len());
+        into[..count].copy_from_slice(&rest[..count]);
+        self.position += count;
+        count
+    }
 }
 
 impl Source for MemSource {
@@ -90,10 +103,6 @@ impl Source for MemSource {
             self.faults = self.faults.saturating_add(1);
             return Err(Failed);
         }
-        let rest = &self.bytes[self.position..];
-        let count = self.most.min(into.len()).min(rest.len());
-        into[..count].copy_from_slice(&rest[..count]);
-        self.position += count;
-        Ok(count)
+        Ok(self.give(into))
     }
 }
