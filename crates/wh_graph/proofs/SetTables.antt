@@ -1,8 +1,9 @@
 -- The tables of edges and of capacities, one set after another.
-use Rattle.std.proofs.Common.{◌≡◌, ◌≢◌, ℕ, zero, suc, ◌+◌, ◌*◌, ◌^◌, ◌<◌, ◌≤◌, ◌==◌, Bool, false, true, not, List, [], ◌∷◌, ◌++◌, inl, inr, refl, sym, ap, ◌∙◌, subst, arith, length-append}
+use Rattle.std.proofs.Common.{◌≡◌, ◌≢◌, ℕ, zero, suc, ◌+◌, ◌*◌, ◌^◌, ◌<◌, ◌≤◌, ◌==◌, Bool, false, true, not, List, length, get_or, set as written, inl, inr, refl, sym, ap, ◌∙◌, subst, arith}
 use Rattle.std.specs.Int.{bit_at}
 use Rattle.std.proofs.lemmas.Bool.{cases_lt}
-use Rattle.std.proofs.lemmas.List.{get_or_push, get_or_append_left}
+use Rattle.std.proofs.lemmas.List.{length-set, get_or-set_other, get_or_default}
+use Rattle.std.proofs.lemmas.Grind.{get_or-set_at}
 use Rattle.std.proofs.lemmas.Nat.Bits.{bit_at_above}
 use Rattle.wh_words.specs.LetterSets.{in_set}
 use Rattle.wh_words.specs.Flows.{sum_below, where_in, degree}
@@ -16,32 +17,57 @@ use Rattle.wh_graph.proofs.CellSums.{cell_most}
 use Rattle.wh_graph.specs.Graphs.{IsGraph}
 use Rattle.wh_graph.proofs.EdgeTables.{graph_capacity}
 use Rattle.wh_words.specs.Tuples.{TupleData, IsTuple}
-use Rattle.wh_graph.specs.CapacityTables.{IsTable, edges_into, set_capacity, tuple_capacity}
+use Rattle.wh_graph.specs.CapacityTables.{IsTable, HasTable, edges_into, set_capacity, tuple_capacity}
 use Rattle.wh_graph.proofs.CapacitySums.{one_more}
 
 -- ---- tables
-pub table_none : (f : ℕ → ℕ) → IsTable f 0 []
-table_none f = record { size = refl; each = λ set d l. absurd (omega (arith, l)) }
-
-pub table_more : (f : ℕ → ℕ) (n : ℕ) (counts : List ℕ) (v : ℕ) → IsTable f n counts → v ≡ f n → IsTable f (n + 1) (counts ++ v ∷ [])
-table_more f n counts v is e = record {
-  size = omega (arith, length-append counts (v ∷ []), is.size);
-  each = λ set d l. elim (cases_lt set n) [
-    | inl h ↦ get_or_append_left counts (v ∷ []) d set (omega (arith, is.size, h)) ∙ is.each set d h
+pub table_more : (f : ℕ → ℕ) (n : ℕ) (counts : List ℕ) (v : ℕ) → HasTable f n counts → n < length counts → v ≡ f n → HasTable f (n + 1) (written counts n v)
+table_more f n counts v is room e = record {
+  room = omega (arith, length-set counts n v, room);
+  each = λ k d l. elim (cases_lt k n) [
+    | inl h ↦ get_or-set_other counts n k v d (λ e. omega (arith, e, h)) ∙ is.each k d h
     | inr h ↦
-        let here : n ≡ set = omega (arith, h, l) in
-        get_or_push counts v d set (omega (arith, is.size, here)) ∙ e ∙ ap f here
+        let here : k ≡ n = omega (arith, h, l) in
+        get_or-set_at counts n k v d here room ∙ e ∙ ap f (sym here)
   ];
 }
 
 pub table_same : (f : ℕ → ℕ) (m n : ℕ) (counts other : List ℕ) → m ≡ n → other ≡ counts → IsTable f m counts → IsTable f n other
 table_same f m n counts other e q is = subst (λ (l : List ℕ). IsTable f n l) (sym q) (subst (λ (k : ℕ). IsTable f k counts) e is)
 
-pub table_first : (f : ℕ → ℕ) (none first : List ℕ) → none ≡ [] → first ≡ none ++ 0 ∷ [] → 0 ≡ f 0 → IsTable f 1 first
-table_first f none first e q at = table_same f 1 1 (0 ∷ []) first refl (q ∙ ap (λ l. l ++ 0 ∷ []) e) (table_more f 0 [] 0 (table_none f) at)
+pub table_first : (f : ℕ → ℕ) (counts first : List ℕ) → 0 < length counts → first ≡ written counts 0 0 → 0 ≡ f 0 → HasTable f 1 first
+table_first f counts first room e at =
+    subst (HasTable f 1) (sym e) (table_more f 0 counts 0 (record { room = omega arith; each = λ k d l. absurd (omega (arith, l)) }) room at)
+
+pub table_of_none : (f : ℕ → ℕ) (counts : List ℕ) → 0 < length counts → 0 ≡ f 0 → get_or counts 0 0 ≡ 0 → HasTable f 1 counts
+table_of_none f counts room at e = record {
+  room = room;
+  each = λ k d l.
+      let here : 0 ≡ k = omega (arith, l) in
+      subst (λ (i : ℕ). get_or counts i d ≡ f i) here (get_or_default counts 0 d 0 room ∙ e ∙ at);
+}
+
+pub table_to : (f : ℕ → ℕ) (m n : ℕ) (counts : List ℕ) → m ≡ n → HasTable f m counts → HasTable f n counts
+table_to f m n counts e is = subst (λ (k : ℕ). HasTable f k counts) e is
+
+pub table_all : (f : ℕ → ℕ) (n : ℕ) (counts : List ℕ) → HasTable f n counts → length counts ≡ n → IsTable f n counts
+table_all f n counts is e = record { size = e; each = is.each }
 
 pub power_more : (k : ℕ) → 2 ^ (k + 1) ≡ 2 ^ k + 2 ^ k
 power_more k = let e : k + 1 ≡ suc k = omega arith in ap (λ n. 2 ^ n) e ∙ omega arith
+
+pub power_up : (j k : ℕ) → j ≤ k → 2 ^ j ≤ 2 ^ k
+power_up j zero h = omega (arith, ap (λ i. 2 ^ i) (zero_from j h))
+  where
+    zero_from : (i : ℕ) → i ≤ 0 → i ≡ 0
+    zero_from i l = omega (arith, l)
+power_up j (suc k) h = elim (cases_lt k j) [
+  | inl l ↦ let here : j ≡ suc k = omega (arith, h, l) in omega (arith, ap (λ i. 2 ^ i) here)
+  | inr l ↦ omega (arith, power_up j k l, power_more k, ap (λ i. 2 ^ i) (one_more_than k))
+]
+  where
+    one_more_than : (i : ℕ) → suc i ≡ i + 1
+    one_more_than i = omega arith
 
 -- ---- sets with one letter more
 module _ (set y : ℕ) (below : set < 2 ^ y) where

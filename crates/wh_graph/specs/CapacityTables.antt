@@ -1,5 +1,5 @@
 -- Tables of what is counted for each set of letters, by the number of the set.
-use Rattle.std.specs.Prelude.{◌≡◌, ℕ, ◌<◌, List, length, get_or}
+use Rattle.std.specs.Prelude.{◌≡◌, ℕ, ◌<◌, ◌≤◌, List, length, get_or}
 use Rattle.wh_words.specs.LetterSets.{in_set}
 use Rattle.wh_words.specs.Flows.{sum_below, where_in, capacity_of_set}
 use Rattle.wh_words.specs.Tuples.{TupleData}
@@ -9,6 +9,11 @@ use Rattle.wh_flow.specs.Tables.{cell}
 -- The list has a number for each set below n, which is that of the function.
 pub record IsTable (f : ℕ → ℕ) (n : ℕ) (counts : List ℕ) : Type 0 where
   pub size : length counts ≡ n
+  pub each : (set default : ℕ) → set < n → get_or counts set default ≡ f set
+
+-- The front of a list has a number for each set below n, which is that of the function.
+pub record HasTable (f : ℕ → ℕ) (n : ℕ) (counts : List ℕ) : Type 0 where
+  pub room : n ≤ length counts
   pub each : (set default : ℕ) → set < n → get_or counts set default ≡ f set
 
 -- How many edges join a letter to the letters of a set.

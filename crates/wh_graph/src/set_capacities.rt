@@ -1,8 +1,8 @@
 //! The capacities of all sets of letters of a rank.
-ghost use Rattle.std.specs.Prelude.{◌≡◌, ◌+◌, ◌*◌, ◌^◌, ◌<◌, ◌≤◌, OnOk, IfOk};
+ghost use Rattle.std.specs.Prelude.{◌≡◌, ◌+◌, ◌*◌, ◌^◌, ◌<◌, ◌≤◌, length, IfOk};
 ghost use Rattle.wh_words.specs.Limits.{most_level_rank};
 ghost use Rattle.wh_flow.specs.Nets.{IsNet};
-ghost use Rattle.wh_graph.specs.CapacityTables.{IsTable, edges_into, set_capacity};
+ghost use Rattle.wh_graph.specs.CapacityTables.{IsTable, HasTable, edges_into, set_capacity};
 
 use crate::capacity::deg;
 use std::alloc::Global;
@@ -17,56 +17,54 @@ pub fn count_sets(letters: u8) -> usize
     1 << letters
 }
 
-/// To the numbers of edges between `x` and the sets of letters before `y`, adds those for the same sets with `y`: each has
-/// the edges of the set without `y` and those between the two letters.
-fn double_edges(edges: &mut Vec<u32>, net: &Net, x: Letter, y: Letter) -> Result<(), OutOfMemory>
+/// Behind the numbers of edges between `x` and the sets of letters before `y`, writes those for the same sets with `y`:
+/// each has the edges of the set without `y` and those between the two letters.
+fn double_edges(edges: &mut [u32], net: &Net, x: Letter, y: Letter)
     requires net { IsNet net.now }
-    requires letter { y < 52 }
-    requires edges { IsTable (edges_into net.now.cells x) (2 ^ y) edges.old.items }
-    ensures { OnOk result (IsTable (edges_into net.now.cells x) (2 ^ (y + 1)) edges.new.items) }
+    requires letter { y < 2 * most_level_rank }
+    requires room { 2 ^ (y + 1) ≤ length edges.old }
+    requires edges { HasTable (edges_into net.now.cells x) (2 ^ y) edges.old }
+    ensures edges { HasTable (edges_into net.now.cells x) (2 ^ (y + 1)) edges.new }
+    ensures same_length { length edges.new ≡ length edges.old }
 {
     let joining = net.cap_of(x, y);
-    for set in 0..edges.len() {
-        let count = edges[set] + joining;
-        edges.push(count)?;
+    let count = count_sets(y.index());
+    for set in 0..count {
+        edges[count + set] = edges[set] + joining;
     }
-    Ok(())
 }
 
-/// How many edges join a letter to each set of letters before it.
-fn count_edges(edges: &mut Vec<u32>, net: &Net, x: Letter) -> Result<(), OutOfMemory>
-    requires { IsNet net.now }
-    ensures { OnOk result (IsTable (edges_into net.now.cells x) (2 ^ x) edges.new.items) }
-{
-    edges.clear();
-    edges.push(0)?;
-    for index in 0..x.index() {
-        double_edges(edges, net, x, Letter::of_index(index))?;
-    }
-    Ok(())
-}
-
-/// To the capacities of the sets of letters before `x`, adds those of the same sets with `x`: each is that of the set
-/// without `x` and the degree of `x`, less twice the edges between the two, which both of these count and which lead out
-/// of the set no more.
-fn double_capacities(
-    capacities: &mut Vec<u32>,
-    net: &Net,
-    x: Letter,
-    edges: &[u32],
-) -> Result<(), OutOfMemory>
+/// Writes how many edges join a letter to each set of letters before it.
+fn count_edges(edges: &mut [u32], net: &Net, x: Letter)
     requires net { IsNet net.now }
-    requires letter { x < 52 }
-    requires capacities { IsTable (set_capacity net.now.cells) (2 ^ x) capacities.old.items }
-    requires edges { IsTable (edges_into net.now.cells x) (2 ^ x) edges.now }
-    ensures { OnOk result (IsTable (set_capacity net.now.cells) (2 ^ (x + 1)) capacities.new.items) }
+    requires letter { x < 2 * most_level_rank }
+    requires room { 2 ^ x ≤ length edges.old }
+    ensures edges { HasTable (edges_into net.now.cells x) (2 ^ x) edges.new }
+    ensures same_length { length edges.new ≡ length edges.old }
+{
+    edges[0] = 0;
+    for index in 0..x.index() {
+        double_edges(edges, net, x, Letter::of_index(index));
+    }
+}
+
+/// Behind the capacities of the sets of letters before `x`, writes those of the same sets with `x`: each is that of the
+/// set without `x` and the degree of `x`, less twice the edges between the two, which both of these count and which lead
+/// out of the set no more.
+fn double_capacities(capacities: &mut [u32], net: &Net, x: Letter, edges: &[u32])
+    requires net { IsNet net.now }
+    requires letter { x < 2 * most_level_rank }
+    requires room { 2 ^ (x + 1) ≤ length capacities.old }
+    requires capacities { HasTable (set_capacity net.now.cells) (2 ^ x) capacities.old }
+    requires edges { HasTable (edges_into net.now.cells x) (2 ^ x) edges.now }
+    ensures capacities { HasTable (set_capacity net.now.cells) (2 ^ (x + 1)) capacities.new }
+    ensures same_length { length capacities.new ≡ length capacities.old }
 {
     let degree = deg(net, x);
-    for set in 0..edges.len() {
-        let capacity = capacities[set] + degree - 2 * edges[set];
-        capacities.push(capacity)?;
+    let count = count_sets(x.index());
+    for set in 0..count {
+        capacities[count + set] = capacities[set] + degree - 2 * edges[set];
     }
-    Ok(())
 }
 
 /// The capacities of all sets of letters of a network's rank, which is MOST_LEVEL_RANK at most: for each set, at the
@@ -78,13 +76,12 @@ pub fn capacity_table(alloc: Global, net: &Net) -> Result<Vec<u32>, OutOfMemory>
     ensures { IfOk result (λ v. IsTable (set_capacity net.now.cells) (2 ^ (2 * net.now.rank)) v.items) }
 {
     let letters = 2 * net.rank().get();
-    let mut capacities = Vec::with_capacity(alloc, count_sets(letters))?;
-    let mut edges = Vec::with_capacity(alloc, count_sets(letters - 1))?;
-    capacities.push(0)?;
+    let mut capacities = vec![in alloc; 0; count_sets(letters)]?;
+    let mut edges = vec![in alloc; 0; count_sets(letters - 1)]?;
     for index in 0..letters {
         let letter = Letter::of_index(index);
-        count_edges(&mut edges, net, letter)?;
-        double_capacities(&mut capacities, net, letter, &edges)?;
+        count_edges(&mut edges, net, letter);
+        double_capacities(&mut capacities, net, letter, &edges);
     }
     Ok(capacities)
 }
