@@ -9,7 +9,7 @@ use Rattle.std.specs.Ordering.{is_gt, ordering_reverse, ordering_then}
 use Rattle.std.specs.Cmp.{nat_cmp_is}
 use Rattle.wh_words.specs.CyclicWords.{rotate, least_below, least_rotation}
 use Rattle.wh_words.specs.Words.{word_cmp}
-use Rattle.wh_words.specs.Rounds.{round}
+use Rattle.wh_words.specs.Rounds.{round, Agree}
 use Rattle.wh_words.proofs.Rotations.{least_rotation-is, rotate-all}
 use Rattle.wh_words.proofs.StoredWords.{rotate-length}
 
@@ -35,14 +35,26 @@ scan_start f = record {
   beaten = λ t h n. absurd (n (omega arith));
 }
 
-pub scan_equal : (f : ℕ → ℕ) (i j k : ℕ) → Scan f i j k → f (i + k) ≡ f (j + k) → Scan f i j (k + 1)
-scan_equal f i j k c e = record {
-  before = c.before;
-  same = λ m h. elim (cases_eq m k) [
-    | inl q ↦ subst (λ (n : ℕ). f (i + n) ≡ f (j + n)) (sym q) e
-    | inr n ↦ c.same m (omega arith)
+-- where letters agree from both pointers on
+pub scan_agree : (f : ℕ → ℕ) (i j k : ℕ) → Scan f i j 0 → ((m : ℕ) → m < k → f (i + m) ≡ f (j + m)) → Scan f i j k
+scan_agree f i j k c same = record { before = c.before; same = same; beaten = c.beaten }
+
+-- starts whose letter is above that of the first pointer are passed over
+pub scan_above : (f : ℕ → ℕ) (i j k : ℕ) → Scan f i j 0 → j ≤ k → ((t : ℕ) → j ≤ t → t < k → f i < f t) → Scan f i k 0
+scan_above f i j k c order above = record {
+  before = omega (arith, c.before, order);
+  same = λ m h. absurd (omega (arith, h));
+  beaten = λ t h n. elim (cases_lt t j) [
+    | inl b ↦ c.beaten t b n
+    | inr b ↦ (i, record {
+      at = 0;
+      same = λ m l. absurd (omega (arith, l));
+      less =
+          let p : i ≡ i + 0 = omega arith in
+          let q : t ≡ t + 0 = omega arith in
+          subst (λ (a : ℕ). f a < f (t + 0)) p (subst (λ (b : ℕ). f i < f b) q (above t b h));
+    })
   ];
-  beaten = c.beaten;
 }
 
 -- where two starts agree and then differ, so do those that follow them
@@ -86,18 +98,15 @@ beaten_below f i j k t c l h = elim (cases_lt t i) [
   ]
 ]
 
-pub scan_near : (f : ℕ → ℕ) (i j k : ℕ) → Scan f i j k → f (j + k) < f (i + k) → i + k + 1 < j → Scan f j (j + 1) 0
-scan_near f i j k c l g = record {
-  before = omega arith;
-  same = λ m h. absurd (omega arith);
-  beaten = λ t h n. beaten_below f i j k t c l (inl (omega arith));
-}
-
-pub scan_far : (f : ℕ → ℕ) (i j k : ℕ) → Scan f i j k → f (j + k) < f (i + k) → j ≤ i + k + 1 → Scan f (i + k + 1) (i + k + 1 + 1) 0
-scan_far f i j k c l g = record {
-  before = omega arith;
-  same = λ m h. absurd (omega arith);
-  beaten = λ t h n. beaten_below f i j k t c l (inr (omega arith));
+-- where the second pointer's letter is below that of the first, the first goes where no start is beaten yet
+pub scan_below : (f : ℕ → ℕ) (i j k best from : ℕ) → Scan f i j k → f (j + k) < f (i + k) → ((i + k + 1 < j) × (best ≡ j)) ⊎ ((j ≤ i + k + 1) × (best ≡ i + k + 1)) → from ≡ best + 1 → Scan f best from 0
+scan_below f i j k best from c l which next = record {
+  before = omega (arith, next);
+  same = λ m h. absurd (omega (arith, h));
+  beaten = λ t h n. beaten_below f i j k t c l (elim which [
+    | inl near ↦ inl (omega (arith, near.1, next, h, n))
+    | inr far ↦ inr (omega (arith, far.1, next, h, n))
+  ]);
 }
 
 -- ---- words
@@ -111,6 +120,29 @@ pub round_far : (w : List ℕ) (m : ℕ) → length w ≤ m → m < length w + l
 round_far w m h l =
     let e : m ≡ (m - length w) + length w = omega arith in
     ap (round w) e ∙ round_again w (m - length w) ∙ round_near w (m - length w) (omega arith)
+
+-- ---- letters that agree
+pub agree_none : (w : List ℕ) (i j : ℕ) → Agree w i j 0
+agree_none w i j m h = absurd (omega (arith, h))
+
+pub agree_more : (w : List ℕ) (i j k : ℕ) → Agree w i j k → round w (i + k) ≡ round w (j + k) → Agree w i j (k + 1)
+agree_more w i j k c e m h = elim (cases_eq m k) [
+  | inl q ↦ subst (λ (n : ℕ). round w (i + n) ≡ round w (j + n)) (sym q) e
+  | inr n ↦ c m (omega (arith, h, n))
+]
+
+pub agree_near : (w : List ℕ) (i j k : ℕ) → i < j → j + k < length w → Agree w i j k → get_or w (i + k) 0 ≡ get_or w (j + k) 0 → Agree w i j (k + 1)
+agree_near w i j k order within c e = agree_more w i j k c (round_near w (i + k) (omega arith) ∙ e ∙ sym (round_near w (j + k) within))
+
+-- ---- letters above another
+pub none_above : (w : List ℕ) (x from : ℕ) → (t : ℕ) → from ≤ t → t < from → x < get_or w t 0
+none_above w x from t h l = absurd (omega (arith, h, l))
+
+pub one_above : (w : List ℕ) (x from k : ℕ) → ((t : ℕ) → from ≤ t → t < k → x < get_or w t 0) → x < get_or w k 0 → (t : ℕ) → from ≤ t → t < k + 1 → x < get_or w t 0
+one_above w x from k c h t low l = elim (cases_eq t k) [
+  | inl e ↦ subst (λ (n : ℕ). x < get_or w n 0) (sym e) h
+  | inr n ↦ c t low (omega (arith, l, n))
+]
 
 -- a start may be taken within the word
 round_start : (w : List ℕ) (s m : ℕ) → round w (s % length w + m) ≡ round w (s + m)
@@ -207,6 +239,23 @@ settle f i j k c all (suc n) t h u = elim (cases_lt t j) [
         },
       )) m)
 ]
+
+-- the first pointer stays within the word
+pub scan_within : (w : List ℕ) (i j : ℕ) → 0 < length w → Scan (round w) i j 0 → i < length w
+scan_within w i j h c =
+    let there : (t : ℕ) × (t < length w) × (least_rotation w ≡ rotate t w) = least_there w h in
+    elim (cases_lt i (length w)) [
+      | inl l ↦ l
+      | inr g ↦ absurd (never_beaten w there.0 there.1 there.2 (c.beaten there.0 (omega (arith, there.1, g, c.before)) (λ e. omega (arith, there.1, g, e))))
+    ]
+
+-- the second pointer passes over letters above that of the first
+pub scan_next : (w : List ℕ) (i j k : ℕ) → 0 < length w → Scan (round w) i j 0 → j ≤ k → (j < k → k ≤ length w) → ((t : ℕ) → j ≤ t → t < k → get_or w i 0 < get_or w t 0) → Scan (round w) i k 0
+scan_next w i j k h c order end above =
+    let within : i < length w = scan_within w i j h c in
+    scan_above (round w) i j k c order (λ t low l.
+    subst (λ (a : ℕ). a < round w t) (sym (round_near w i within))
+    (subst (λ (b : ℕ). get_or w i 0 < b) (sym (round_near w t (omega (arith, l, end (omega (arith, low, l)))))) (above t low l)))
 
 -- where the search ends
 pub scan_done : (w : List ℕ) (i j k : ℕ) → 0 < length w → Scan (round w) i j k → (length w ≤ j) ⊎ (length w ≤ k) → (i < length w) × (rotate i w ≡ least_rotation w)
