@@ -17,7 +17,9 @@ use Rattle.wh_words.specs.Moves.Kind.{swap, invert, cut}
 use Rattle.wh_words.specs.Levels.{IsLevelMove}
 use Rattle.wh_words.specs.Edges.{cap, deg}
 use Rattle.wh_graph.proofs.LevelMoves.{made_swap_level, made_invert_level, made_cut_level, level_cut}
+use Rattle.wh_graph.specs.CapacityTables.{IsTable, tuple_capacity}
 use Rattle.wh_expand.specs.FirstLevelMoves.{AreLevelMovesBefore}
+use Rattle.wh_expand.specs.Pieces.{LacksBetween}
 use Rattle.wh_expand.specs.Rows.{AreLevelMoves}
 use Rattle.wh_expand.proofs.KindOrder.{Follows, none_before, all_before, next_swap, next_invert, next_cut, after_swaps, after_inversions, after_multiplier}
 
@@ -142,6 +144,21 @@ module _ (t : TupleData) (ms : List Move) where
   skip_sets n a set end same h are none =
       let e : set + (end - set) ≡ end = omega (arith, h) in
       subst (λ s. AreLevelMovesBefore t (cut a s) ms) e (skip_many n a set (end - set) same are (λ v k l. none v k (omega (arith, l, e))))
+
+  skip_unlike : (a set count : ℕ) → IsTuple t → AreLevelMovesBefore t (cut a set) ms → ((v : ℕ) → set ≤ v → v < set + count → cap (in_set v) t ≢ deg a t) → AreLevelMovesBefore t (cut a (set + count)) ms
+  skip_unlike a set zero is are other = let e : set ≡ set + 0 = omega arith in subst (λ s. AreLevelMovesBefore t (cut a s) ms) e are
+  skip_unlike a set (suc count) is are other =
+      let e : set + 1 + count ≡ set + suc count = omega arith in
+      subst (λ s. AreLevelMovesBefore t (cut a s) ms) e
+      (skip_unlike a (set + 1) count is (skip_other a set is are (other set (omega arith) (omega arith))) (λ v h l. other v (omega (arith, h)) (omega (arith, l))))
+
+  -- Sets from one up to another in a table of capacities, in which the degree doesn't stand.
+  pub skip_lacking : (a set end : ℕ) (counts : List ℕ) (degree : ℕ) → IsTuple t → IsTable (tuple_capacity t) (2 ^ (2 * t.rank)) counts → degree ≡ deg a t → set ≤ end → end ≤ 2 ^ (2 * t.rank) → LacksBetween counts degree set end
+      → AreLevelMovesBefore t (cut a set) ms → AreLevelMovesBefore t (cut a end) ms
+  skip_lacking a set end counts degree is table same order within lacks are =
+      let e : set + (end - set) ≡ end = omega (arith, order) in
+      subst (λ s. AreLevelMovesBefore t (cut a s) ms) e
+      (skip_unlike a set (end - set) is are (λ v h l q. lacks v h (omega (arith, l, e)) (table.each v 0 (omega (arith, l, e, within)) ∙ q ∙ sym same)))
 
   module _ (n a set : ℕ) (same : n ≡ t.rank) (m : Move) (e : m ≡ cut_move n a set) (are : AreLevelMovesBefore t (cut a set) ms) where
     pub skip_identity : IsIdentityCut m.kind → AreLevelMovesBefore t (cut a (set + 1)) ms

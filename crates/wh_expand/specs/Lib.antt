@@ -1,3 +1,4 @@
 pub mod Rows
 pub mod FirstLevelMoves
 pub mod TurnedCuts
+pub mod Pieces

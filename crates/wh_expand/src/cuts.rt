@@ -1,5 +1,5 @@
 //! The cuts that keep the length of a tuple.
-ghost use Rattle.std.specs.Prelude.{◌≡◌, ◌+◌, ◌*◌, ◌^◌, ◌<◌, ◌≤◌, OnOk};
+ghost use Rattle.std.specs.Prelude.{◌≡◌, ◌+◌, ◌*◌, ◌^◌, ◌<◌, ◌≤◌, false, length, get_or, OnOk};
 ghost use Rattle.wh_words.specs.Limits.{most_level_rank};
 ghost use Rattle.wh_words.specs.LetterSets.{in_set};
 ghost use Rattle.wh_words.specs.Tuples.{IsTuple};
@@ -7,6 +7,7 @@ ghost use Rattle.wh_words.specs.Moves.Kind.{cut};
 ghost use Rattle.wh_words.specs.Edges.{cap, deg};
 ghost use Rattle.wh_graph.specs.CapacityTables.{IsTable, tuple_capacity};
 ghost use Rattle.wh_expand.specs.FirstLevelMoves.{AreLevelMovesBefore};
+ghost use Rattle.wh_expand.specs.Pieces.{LacksBetween};
 
 use std::alloc::Global;
 use wh_graph::{capacity_table, count_sets, deg, graph};
@@ -33,6 +34,52 @@ fn push_cut(
     Ok(())
 }
 
+/// How many sets are looked at at once.
+const PIECE: usize = 16;
+
+/// Whether some of these capacities is a degree. All are looked at, so that several are at once.
+#[tactic(auto, using(crate::proofs::Pieces::none_so_far, crate::proofs::Pieces::one_more))]
+fn has_degree(capacities: &[u32], degree: u32) -> bool
+    ensures { result ≡ false → LacksBetween capacities.now degree 0 (length capacities.now) }
+{
+    let mut found = false;
+    for capacity in capacities {
+        found |= *capacity == degree;
+    }
+    found
+}
+
+/// The place from which on a degree may stand among the capacities up to `end`: pieces without it are passed over.
+fn next_piece(capacities: &[u32], degree: u32, start: usize, end: usize) -> usize
+    requires order { start ≤ end }
+    requires within { end ≤ length capacities.now }
+    ensures order { start ≤ result }
+    ensures within { result ≤ end }
+    ensures lacks { LacksBetween capacities.now degree start result }
+{
+    let mut set = start;
+    while PIECE <= end - set && !has_degree(&capacities[set..set + PIECE], degree) {
+        set += PIECE;
+    }
+    set
+}
+
+/// The first set from one on up to `end` whose capacity is a degree, or `end`.
+fn next_set(capacities: &[u32], degree: u32, start: usize, end: usize) -> usize
+    requires order { start ≤ end }
+    requires within { end ≤ length capacities.now }
+    ensures order { start ≤ result }
+    ensures within { result ≤ end }
+    ensures lacks { LacksBetween capacities.now degree start result }
+    ensures found { result < end → get_or capacities.now result 0 ≡ degree }
+{
+    let mut set = next_piece(capacities, degree, start, end);
+    while set < end && capacities[set] != degree {
+        set += 1;
+    }
+    set
+}
+
 /// Adds the cuts with a multiplier and with sets from one up to another that keep the length, by set. A cut keeps the
 /// length where the capacity of its set is the degree of its multiplier (Lyndon and Schupp, I.4).
 fn push_run(
@@ -53,10 +100,10 @@ fn push_run(
     requires before { AreLevelMovesBefore tuple.now.plain (cut mult start) moves.old.items }
     ensures { OnOk result (AreLevelMovesBefore tuple.now.plain (cut mult end) moves.new.items) }
 {
-    for set in start..end {
-        if capacities[set] == degree {
-            push_cut(moves, tuple, mult, LetterSet::of_bits(set as u64))?;
-        }
+    let mut set = next_set(capacities, degree, start, end);
+    while set < end {
+        push_cut(moves, tuple, mult, LetterSet::of_bits(set as u64))?;
+        set = next_set(capacities, degree, set + 1, end);
     }
     Ok(())
 }
