@@ -1,8 +1,8 @@
 -- Lists in which a cell is written.
-use Rattle.std.proofs.Common.{◌≡◌, ◌≢◌, ℕ, zero, suc, ◌+◌, ◌<◌, Bool, true, false, not, cond, List, [], ◌∷◌, length, set, replicate, Some, slice_get, refl, ap, ◌∙◌, arith}
+use Rattle.std.proofs.Common.{◌≡◌, ◌≢◌, ℕ, zero, suc, ◌+◌, ◌<◌, Bool, true, false, not, cond, List, [], ◌∷◌, ◌++◌, length, set, replicate, Some, slice_get, refl, ap, ◌∙◌, arith}
 use Rattle.std.specs.List.{count_by}
 use Rattle.std.proofs.lemmas.List.Sums.{sum_by-cons}
-use Rattle.std.proofs.lemmas.List.{get_or-replicate, length-replicate}
+use Rattle.std.proofs.lemmas.List.{get_or-replicate, length-replicate, length_push, get_or_push}
 use Rattle.std.proofs.lemmas.Option.{slice_get-get_or}
 
 pub slice_get_set_same : {X : Type 0} (xs : List X) (i : ℕ) (y : X) → i < length xs → slice_get (set xs i y) i ≡ Some y
@@ -33,3 +33,22 @@ count_unseen_set (b ∷ xs) (suc i) h = omega (arith, more_unseen b (set xs i tr
 pub count_unseen_all : (n : ℕ) → count_by not (replicate n false) ≡ n
 count_unseen_all zero = refl
 count_unseen_all (suc n) = omega (arith, more_unseen false (replicate n false), count_unseen_all n)
+
+pub count_unseen_push : (xs : List Bool) → count_by not (xs ++ false ∷ []) ≡ count_by not xs + 1
+count_unseen_push [] = refl
+count_unseen_push (x ∷ xs) = omega (arith, more_unseen x (xs ++ false ∷ []), more_unseen x xs, count_unseen_push xs)
+
+-- ---- a cell more
+pub slice_get_before : {X : Type 0} (xs ys : List X) (k : ℕ) (x : X) → slice_get xs k ≡ Some x → slice_get (xs ++ ys) k ≡ Some x
+slice_get_before [] ys k x h = absurd (cc)
+slice_get_before (z ∷ xs) ys zero x h = h
+slice_get_before (z ∷ xs) ys (suc k) x h = slice_get_before xs ys k x h
+
+pub slice_get_last : {X : Type 0} (xs : List X) (x : X) (n : ℕ) → length xs ≡ n → slice_get (xs ++ x ∷ []) n ≡ Some x
+slice_get_last xs x n e = slice_get-get_or (xs ++ x ∷ []) n x (omega (arith, e, length_push xs x)) ∙ ap Some (get_or_push xs x x n e)
+
+pub true_before_false : (xs : List Bool) (k : ℕ) → slice_get (xs ++ false ∷ []) k ≡ Some true → slice_get xs k ≡ Some true
+true_before_false [] zero h = absurd (cc)
+true_before_false [] (suc k) h = h
+true_before_false (x ∷ xs) zero h = h
+true_before_false (x ∷ xs) (suc k) h = true_before_false xs k h

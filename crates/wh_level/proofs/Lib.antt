@@ -10,3 +10,5 @@ pub mod Placings
 pub mod Rooms
 pub mod FirstParents
 pub mod Absent
+pub mod Growth
+pub mod OtherPlaces

@@ -1,18 +1,18 @@
 -- The start of the search for first walks, its stops one by one, and what it has found at its end.
-use Rattle.std.proofs.Common.{◌≡◌, ◌≢◌, ℕ, zero, suc, ◌+◌, ◌<◌, ◌≤◌, true, false, List, [], ◌∷◌, ◌++◌, length, get_or, replicate, reverse, Some, None, slice_get, Contains, refl, sym, ap, ◌∙◌, subst, arith, inl, inr}
+use Rattle.std.proofs.Common.{◌≡◌, ◌≢◌, ℕ, zero, suc, ◌+◌, ◌<◌, ◌≤◌, true, false, List, [], ◌∷◌, ◌++◌, length, get_or, replicate, reverse, Some, None, slice_get, Contains, ◌↔◌, refl, sym, ap, ◌∙◌, subst, arith, inl, inr}
 use Rattle.std.proofs.lemmas.Bool.{cases_eq, cases_lt}
 use Rattle.std.proofs.lemmas.List.{length_push, length-set, length-map, get_or-map, get_or_default, length-replicate, reverse-append, reverse-reverse, length-reverse}
 use Rattle.std.proofs.lemmas.List.Elements.{All-contains, All-nil, All-cons}
 use Rattle.std.proofs.lemmas.Map.Keys.{Less-from_sorted}
-use Rattle.std.proofs.lemmas.Option.{slice_get_within, get_or_from_slice_get, same_Some}
+use Rattle.std.proofs.lemmas.Option.{slice_get-get_or, slice_get_within, get_or_from_slice_get, same_Some, some_pair_parts}
 use Rattle.std.specs.List.{All}
 use Rattle.std.specs.List.Sorted.{IsStrictlySortedBy}
 use Rattle.std.specs.declared.cmp.Ordering.TheVariants.{Less}
 use Rattle.wh_words.specs.Tuples.{TupleData, tuple_cmp}
 use Rattle.wh_words.specs.Moves.{Move}
-use Rattle.wh_words.specs.Levels.{IsLevelMove, Reaches, InLevel, IsLevel, IsFirstWalk}
+use Rattle.wh_words.specs.Levels.{IsLevelMove, Reaches, InLevel, IsFirstWalk}
 use Rattle.wh_words.specs.Levels.Reaches.{here}
-use Rattle.wh_level.specs.Trees.{LeadsBack, IsWalkedTo, AreParents}
+use Rattle.wh_level.specs.Trees.{LeadsBack, IsWalkedTo, AreParents, AreWithin}
 use Rattle.wh_level.specs.Trees.LeadsBack.{root as back_at_root, step as back_step}
 use Rattle.wh_level.specs.Searches.{SearchData, started, Stop, NoLater, Earlier, HasParent, IsStop, IsFollowed, AllEarlier, IsKnown, IsSearched}
 use Rattle.wh_level.specs.Searches.HasParent.{none, some}
@@ -156,8 +156,11 @@ same_places tuples v w t sorted h k = elim (cases_lt v w) [
 contains_at : (tuples : List TupleData) (v : ℕ) (t : TupleData) → slice_get tuples v ≡ Some t → Contains tuples t
 contains_at tuples v t h = (v, slice_get_within tuples v t h, get_or_from_slice_get tuples v t t h)
 
-module _ {root : TupleData} {tuples : List TupleData} {s : SearchData} {at : ℕ} (u : IsSearched root tuples s at) (all : length s.queue ≤ at)
-    (sorted : IsStrictlySortedBy tuple_cmp tuples) (inside : All (InLevel root) tuples) where
+-- No tuple has two places.
+abbrev pub AreAlone : List TupleData → Type 0
+AreAlone tuples = (v w : ℕ) (t : TupleData) → slice_get tuples v ≡ Some t → slice_get tuples w ≡ Some t → v ≡ w
+
+module _ {root : TupleData} {tuples : List TupleData} {s : SearchData} {at : ℕ} (u : IsSearched root tuples s at) (all : length s.queue ≤ at) (inside : All (InLevel root) tuples) (alone : AreAlone tuples) where
   whole : IsWhole u.stops
   whole e c = subst (λ (x : Stop). (m : Move) → IsLevelMove x.tuple m → IsFollowed u.stops x m) c.2 (u.done c.0 e (omega (arith, c.1, all, queue_length u)) c.1)
 
@@ -170,16 +173,13 @@ module _ {root : TupleData} {tuples : List TupleData} {s : SearchData} {at : ℕ
   is_stop : (e : Stop) → Contains u.stops e → IsStop root tuples s.parents u.stops e
   is_stop e c = All-contains (IsStop root tuples s.parents u.stops) u.stops e u.known.each c
 
-  pub level_whole : IsLevel root tuples
-  level_whole = record {
-    sorted = sorted;
-    exact = λ t. (
-      λ c. All-contains (InLevel root) tuples t inside c,
-      λ r.
-          let a : IsArrived u.stops r.0 t = arrived r.1 in
-          contains_at tuples a.stop.place t ((is_stop a.stop a.found).at ∙ ap Some a.is),
-    );
-  }
+  pub level_exact : (t : TupleData) → Contains tuples t ↔ InLevel root t
+  level_exact t = (
+    λ c. All-contains (InLevel root) tuples t inside c,
+    λ r.
+        let a : IsArrived u.stops r.0 t = arrived r.1 in
+        contains_at tuples a.stop.place t ((is_stop a.stop a.found).at ∙ ap Some a.is),
+  )
 
   -- stops at one place are one stop
   same_stops : (e f : Stop) → Contains u.stops e → Contains u.stops f → e.place ≡ f.place → e ≡ f
@@ -212,12 +212,12 @@ module _ {root : TupleData} {tuples : List TupleData} {s : SearchData} {at : ℕ
   stop_here v t h =
       let r : InLevel root t = All-contains (InLevel root) tuples t inside (contains_at tuples v t h) in
       let a : IsArrived u.stops r.0 t = arrived r.1 in
-      (a.stop, a.found, same_places tuples a.stop.place v t sorted ((is_stop a.stop a.found).at ∙ ap Some a.is) h, a.is)
+      (a.stop, a.found, alone a.stop.place v t ((is_stop a.stop a.found).at ∙ ap Some a.is) h, a.is)
 
   stop_first : (e : Stop) → Contains u.stops e → (q : List Move) → Reaches root q e.tuple → NoLater e.path q
   stop_first e c q r =
       let a : IsArrived u.stops q e.tuple = arrived r in
-      let one : a.stop ≡ e = same_stops a.stop e a.found c (same_places tuples a.stop.place e.place e.tuple sorted ((is_stop a.stop a.found).at ∙ ap Some a.is) (is_stop e c).at) in
+      let one : a.stop ≡ e = same_stops a.stop e a.found c (alone a.stop.place e.place e.tuple ((is_stop a.stop a.found).at ∙ ap Some a.is) (is_stop e c).at) in
       subst (λ (x : Stop). NoLater x.path q) one a.early
 
   walked_to : (v : ℕ) (t : TupleData) → slice_get tuples v ≡ Some t → IsWalkedTo root s.parents v t
@@ -230,6 +230,18 @@ module _ {root : TupleData} {tuples : List TupleData} {s : SearchData} {at : ℕ
         first = subst (λ (p : List Move). IsFirstWalk root t p) (sym (reverse-reverse e.0.path)) (subst (λ (x : TupleData). IsFirstWalk root x e.0.path) e.3 walk);
         short = omega (arith, length-reverse e.0.path, stop_short e.0 e.1);
       }
+
+  -- the parents tell places that there are
+  pub parents_within : AreWithin (length tuples) s.parents
+  parents_within v p m h =
+      let t : TupleData = get_or tuples v root in
+      let e : (e : Stop) × Contains u.stops e × (e.place ≡ v) × (e.tuple ≡ t) = stop_here v t (slice_get-get_or tuples v root (omega (arith, slice_get_within s.parents v (Some (p, m)) h, u.known.parents))) in
+      elim (is_stop e.0 e.1).parent [
+        | none path at_root ↦ absurd (let both : Some None ≡ Some (Some (p, m)) = sym at_root ∙ ap (slice_get s.parents) e.2 ∙ h in cc)
+        | some f n there path from ↦
+            subst (λ (q : ℕ). q < length tuples) (some_pair_parts f.place p n m (same_Some (Some (f.place, n)) (Some (p, m)) (sym from ∙ ap (slice_get s.parents) e.2 ∙ h))).0
+            (slice_get_within tuples f.place f.tuple (is_stop f there).at)
+      ]
 
   root_alone : (e : Stop) → HasParent s.parents u.stops e → Contains u.stops e → slice_get s.parents e.place ≡ Some None → e.tuple ≡ root
   root_alone e (none path at_root) c h = reached_itself (subst (λ (p : List Move). Reaches root p e.tuple) path (is_stop e c).walk)
@@ -250,6 +262,6 @@ module _ {root : TupleData} {tuples : List TupleData} {s : SearchData} {at : ℕ
       λ is.
           let b : Stop = u.known.start.stop in
           let at_b : slice_get tuples b.place ≡ Some t = (is_stop b u.known.start.found).at ∙ ap Some (u.known.start.tuple ∙ sym is) in
-          ap (slice_get s.parents) (same_places tuples v b.place t sorted h at_b) ∙ root_none b (is_stop b u.known.start.found).parent u.known.start.path,
+          ap (slice_get s.parents) (alone v b.place t h at_b) ∙ root_none b (is_stop b u.known.start.found).parent u.known.start.path,
     );
   }

@@ -236,7 +236,7 @@ module _ {root : TupleData} {tuples : List TupleData} {s : SearchData} {at place
   ahead : AllEarlier stops (u.current.path ++ m ∷ [])
   ahead = subst (λ (n : Move). AllEarlier stops (u.current.path ++ n ∷ [])) (item m) (u.next j m (omega arith) within)
 
-  underway_seen : slice_get s.seen to ≡ Some true → IsUnderway root tuples s at place t moves (j + 1)
+  pub underway_seen : slice_get s.seen to ≡ Some true → IsUnderway root tuples s at place t moves (j + 1)
   underway_seen seen = underway_followed u m item (seen_followed u.known u.current at m to u.within u.here level_here leads_here ahead seen)
 
   module _ (new : slice_get s.seen to ≡ Some false) where
@@ -282,7 +282,7 @@ module _ {root : TupleData} {tuples : List TupleData} {s : SearchData} {at place
           (comes_after ((u.current.path ++ m ∷ []) ++ n ∷ []) (λ i e b. earlier_from (ahead i e b) (one_longer (u.current.path ++ m ∷ []) n)) (one_longer (u.current.path ++ m ∷ []) n))
     ]
 
-    underway_new : IsUnderway root tuples after at place t moves (j + 1)
+    pub underway_new : IsUnderway root tuples after at place t moves (j + 1)
     underway_new = record {
       stops = grown;
       known = subst (λ (p : ℕ). IsKnown root tuples (record { parents = set s.parents to (Some (p, m)); seen = set s.seen to true; queue = s.queue ++ to ∷ [] }) grown) u.stands

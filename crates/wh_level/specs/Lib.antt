@@ -3,3 +3,4 @@ pub mod Sealings
 pub mod Laws
 pub mod Searches
 pub mod PlacedTuples
+pub mod GrowingLevels

@@ -25,3 +25,8 @@ pub record HasRoomsFor (into : Tuple) (t : TupleData) : Type 0 where
 pub record KeepsRooms (old new : Tuple) : Type 0 where
   pub letters : new.room ≡ old.room
   pub words : new.word_room ≡ old.word_room
+
+-- For each tuple of a list its place in another.
+pub record ArePlaces (ts us : List TupleData) (places : List ℕ) : Type 0 where
+  pub count : length places ≡ length ts
+  pub stands : (k : ℕ) (t : TupleData) → slice_get ts k ≡ Some t → slice_get us (get_or places k 0) ≡ Some t

@@ -1,5 +1,5 @@
 -- The tree of first walks of a level: each tuple but the root has a parent and a move that leads from it.
-use Rattle.std.specs.Prelude.{◌≡◌, ℕ, ◌<◌, ◌≤◌, List, [], ◌∷◌, length, reverse, Option, Some, None, slice_get, ◌↔◌}
+use Rattle.std.specs.Prelude.{◌≡◌, ◌≢◌, ℕ, ◌<◌, ◌≤◌, List, [], ◌∷◌, length, reverse, get_or, Option, Some, None, slice_get, ◌↔◌}
 use Rattle.wh_words.specs.Limits.{most_level_rank}
 use Rattle.wh_words.specs.Tuples.{TupleData}
 use Rattle.wh_words.specs.Moves.{Move}
@@ -38,3 +38,23 @@ pub record IsClosedLevel (l : LevelData) : Type 0 where
   pub rank : l.root.rank ≤ most_level_rank
   pub level : IsLevel l.root l.tuples
   pub parents : AreParents l.root l.tuples l.parents
+
+-- ---- other places
+-- A parent whose place has become another one.
+abbrev pub moved_parent : List ℕ → Option (ℕ × Move) → Option (ℕ × Move)
+moved_parent places None = None
+moved_parent places (Some p) = Some (get_or places p.0 0, p.1)
+
+-- The first so many of the parents stand at their other places, and tell other places.
+pub record AreMoved (places : List ℕ) (parents : Parents) (n : ℕ) (moved : Parents) : Type 0 where
+  pub count : length moved ≡ length places
+  pub each : (k : ℕ) → k < n → slice_get moved (get_or places k 0) ≡ Some (moved_parent places (get_or parents k None))
+
+-- Each tuple has another place, and two have different ones.
+pub record AreOtherPlaces (places : List ℕ) : Type 0 where
+  pub within : (k : ℕ) → k < length places → get_or places k 0 < length places
+  pub apart : (j k : ℕ) → j < k → k < length places → get_or places j 0 ≢ get_or places k 0
+
+-- The parents tell places of so many tuples.
+abbrev pub AreWithin : ℕ → Parents → Type 0
+AreWithin n parents = (v p : ℕ) (m : Move) → slice_get parents v ≡ Some (Some (p, m)) → p < n

@@ -2,15 +2,18 @@
 #![tactic(auto)]
 
 mod first_walks;
+mod growing_level;
 pub mod laws;
 mod level;
 mod missing;
 mod placing;
+mod renumbering;
 mod sealing;
 mod search;
 mod tree_copy;
 
 pub use first_walks::Tree;
+pub use growing_level::GrowingLevel;
 pub use level::Level;
 pub use sealing::{Sealed, seal};
 pub use tree_copy::tree;

@@ -37,7 +37,7 @@ fn blank(alloc: Global, root: &Tuple) -> Result<Tuple, OutOfMemory>
 }
 
 /// The level of a root: copies of its tuples by their places, with their parents.
-fn level_of(
+pub(crate) fn level_of(
     alloc: Global,
     root: &Tuple,
     places: &TupleSet,

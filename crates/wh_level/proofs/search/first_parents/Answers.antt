@@ -1,13 +1,14 @@
 use Rattle.std.proofs.Common.{◌≡◌, ◌<◌, ◌≤◌, ◌∙◌, Some, slice_get, length, sym, ap, subst, arith, map}
 use Rattle.std.proofs.lemmas.Option.{slice_get_within}
-use Rattle.wh_words.specs.Tuples.{TupleData, IsTuple}
+use Rattle.std.specs.List.Sorted.{IsStrictlySortedBy}
+use Rattle.wh_words.specs.Tuples.{TupleData, IsTuple, tuple_cmp}
 use Rattle.wh_expand.specs.Rows.{row_tuple}
 use Rattle.wh_level.specs.PlacedTuples.{HasRoomsFor}
 use Rattle.wh_level.specs.Searches.{GoesOver, IsAbsentImage}
 use Rattle.wh_level.specs.Trees.{AreParents}
 use Rattle.wh_level.proofs.FirstParents.{past_from_none, started_at, next_within, next_tuple, cells_of, row_at, row_within, row_tuple_is, row_good, missed_root, missed_image, went_over}
 use Rattle.wh_level.proofs.Rooms.{rooms_itself, rooms_then, rooms_kept, rooms_in_level}
-use Rattle.wh_level.proofs.SearchEnds.{level_whole, parents_whole}
+use Rattle.wh_level.proofs.SearchEnds.{AreAlone, same_places, level_exact, parents_whole}
 use Rattle.wh_level.proofs.Walks.{reached_tuple}
 use Rattle.wh_level.proofs.search.first_parents.Goals as goal
 
@@ -90,9 +91,11 @@ loop-from-preserved c = record {
 
 pub returns-clause-parents : goal.returns-clause-parents
 returns-clause-parents c =
+    let sorted : IsStrictlySortedBy tuple_cmp c.args.places.now = c.requires.placing.sorted in
+    let alone : AreAlone c.args.places.now = λ v w t. same_places c.args.places.now v w t sorted in
     let all : length c.loop-from.search.queue ≤ c.loop-from.at = past_from_none c.loop-from.search.queue c.loop-from.at (sym c.found.ensures ∙ c.in_default-found.is) in (
-      level_whole c.loop-from.invariant.searched all c.requires.placing.sorted c.requires.within,
-      subst (AreParents c.args.root.now.plain c.args.places.now) (sym c.into_parents.ensures) (parents_whole c.loop-from.invariant.searched all c.requires.placing.sorted c.requires.within),
+      record { sorted = sorted; exact = level_exact c.loop-from.invariant.searched all c.requires.within alone },
+      subst (AreParents c.args.root.now.plain c.args.places.now) (sym c.into_parents.ensures) (parents_whole c.loop-from.invariant.searched all c.requires.within alone),
     )
 
 pub expand-requires-clause-tuple : goal.expand-requires-clause-tuple
