@@ -1,7 +1,7 @@
 -- A level grows by one tuple after another, for `GrowingLevel`.
 use Rattle.std.proofs.Common.{◌≡◌, ◌⊎◌, ℕ, zero, suc, ◌+◌, ◌<◌, ◌≤◌, true, false, List, [], ◌∷◌, ◌++◌, length, get_or, set, Some, None, slice_get, Contains, refl, sym, ap, ◌∙◌, subst, arith, inl, inr}
 use Rattle.std.proofs.lemmas.Bool.{cases_lt}
-use Rattle.std.proofs.lemmas.List.{length_push, get_or_read, set_at}
+use Rattle.std.proofs.lemmas.List.{length_push, length-map, get_or_read, set_at}
 use Rattle.std.proofs.lemmas.List.Elements.{All-weaker}
 use Rattle.std.proofs.lemmas.Option.{slice_get-get_or, slice_get_within, get_or_from_slice_get}
 use Rattle.std.specs.List.{All}
@@ -69,6 +69,7 @@ one_place k h = omega (arith, h)
 
 pub gone_start : (root : TupleData) → HasGoneOver root (record { tuples = root ∷ []; parents = None ∷ [] }) 0
 gone_start root = record {
+  within = omega arith;
   search = record { parents = None ∷ []; seen = true ∷ []; queue = 0 ∷ [] };
   searched = searched_at_start root (root ∷ []) 0 refl;
   found = record {
@@ -162,6 +163,9 @@ module _ {root : TupleData} {g : GrowingData} {at : ℕ} {t : TupleData} {moves 
   }
 
 -- ---- the end of a tuple, and before it
+stops_count : {root : TupleData} {tuples : List TupleData} {s : SearchData} {stops : List Stop} → IsKnown root tuples s stops → length s.queue ≡ length stops
+stops_count {stops = stops} known = ap length known.queue ∙ length-map stops (λ (e : Stop). e.place)
+
 within_level : {root : TupleData} {g : GrowingData} {s : SearchData} {stops : List Stop} → IsKnown root g.tuples s stops → IsFoundInTurn s g → All (InLevel root) g.tuples
 within_level {root} {g} known found k d h =
     let e = stop_at known k (found.seen k h) in
@@ -175,4 +179,4 @@ pub growing_past : {root : TupleData} {g : GrowingData} {at : ℕ} {t : TupleDat
 growing_past limit u h = inr (h, within_level u.underway.known u.found)
 
 pub growing_end : {root : TupleData} {g : GrowingData} {at : ℕ} {t : TupleData} {moves : List Move} {j : ℕ} (limit : ℕ) → IsGrowing root g at t moves j → AreLevelMoves t moves → length moves ≤ j → GoesOn root limit g (at + 1)
-growing_end limit u row all = inl (record { search = u.search; searched = underway_end u.underway all (λ m l. (row.exact m).1 l); found = u.found })
+growing_end limit u row all = inl (record { within = omega (arith, u.underway.within, u.found.count, stops_count u.underway.known); search = u.search; searched = underway_end u.underway all (λ m l. (row.exact m).1 l); found = u.found })

@@ -1,5 +1,5 @@
 -- Levels that grow: a search finds one tuple after another. It goes over them in this order, and over the level moves of each in theirs.
-use Rattle.std.specs.Prelude.{◌≡◌, ◌⊎◌, ℕ, ◌<◌, true, List, [], ◌∷◌, ◌++◌, length, slice_get, Some, Contains}
+use Rattle.std.specs.Prelude.{◌≡◌, ◌⊎◌, ℕ, ◌<◌, ◌≤◌, true, List, [], ◌∷◌, ◌++◌, length, slice_get, Some, Contains}
 use Rattle.std.specs.List.{All}
 use Rattle.wh_words.specs.Tuples.{TupleData}
 use Rattle.wh_words.specs.Moves.{Move}
@@ -27,6 +27,7 @@ pub record IsFoundInTurn (s : SearchData) (g : GrowingData) : Type 0 where
 
 -- The search for first walks from the root has found these tuples and gone over the first so many of them.
 pub record HasGoneOver (root : TupleData) (g : GrowingData) (at : ℕ) : Type 0 where
+  pub within : at ≤ length g.tuples
   pub search : SearchData
   pub searched : IsSearched root g.tuples search at
   pub found : IsFoundInTurn search g

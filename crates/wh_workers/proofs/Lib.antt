@@ -1,3 +1,1 @@
-pub mod Meetings
-pub mod Wholes
 pub mod Exploring
