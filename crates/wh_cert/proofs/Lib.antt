@@ -1,5 +1,10 @@
 pub mod Judging
 pub mod Staying
+pub mod PermutedLetters
+pub mod PermutedCuts
+pub mod SwappedInversions
+pub mod ClosedOrbits
+pub mod JudgedOrbits
 pub mod Flowing
 pub mod Carried
 pub mod Rising

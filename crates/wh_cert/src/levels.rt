@@ -5,11 +5,12 @@ ghost use Rattle.wh_words.specs.Limits.{most_level_rank};
 ghost use Rattle.wh_words.specs.Tuples.{TupleData};
 ghost use Rattle.wh_sets.specs.TupleSets.{HaveSameTuples};
 ghost use Rattle.wh_data.specs.AnswerData.{plains};
-ghost use Rattle.wh_cert.specs.Demands.{Rises, rises, has_height, is_absent, is_closed, tuple_at, asked_below, at_asked, level_asked};
+ghost use Rattle.wh_cert.specs.Demands.{Rises, ImagesAreIn, rises, has_height, is_absent, is_closed, tuple_at, asked_below, at_asked, level_asked};
 ghost use Rattle.wh_cert.specs.Listings.{IsRoomy};
 ghost use Rattle.wh_cert.specs.Judged.{Judges};
 
 use crate::checked::Rule;
+use crate::closure::all_closed;
 use crate::images::images_are_in;
 use crate::stop::{Stop, ask};
 use std::alloc::Global;
@@ -43,24 +44,29 @@ fn judge_tuple(
     ask(place, Rule::Absent, !tuples[k].same(second))
 }
 
-/// Judges the images of a tuple of a level, in the line at a place.
+/// Judges the images of a tuple of a level, in the line at a place, where the whole level isn't known to be closed.
 fn judge_images(
     alloc: Global,
     place: usize,
     listed: &TupleSet,
+    closed: bool,
     tuple: &Tuple,
     image: &mut Tuple,
 ) -> Result<(), Stop>
+    requires closed { IsTrue closed → ImagesAreIn listed.now tuple.now.plain }
     requires rank { tuple.now.plain.rank ≤ most_level_rank }
     requires own { Contains listed.now tuple.now.plain }
     requires roomy { IsRoomy image.old }
     ensures judges { (ts : List TupleData) → HaveSameTuples listed.now ts → Judges ((place, is_closed ts tuple.now.plain) ∷ []) result }
     ensures roomy { IsRoomy image.new }
 {
+    if closed {
+        return Ok(());
+    }
     // The proof takes from this call that it is a tuple.
     tuple.rank();
-    let closed = images_are_in(alloc, listed, tuple, image)?;
-    ask(place, Rule::Closed, closed)
+    let stays = images_are_in(alloc, listed, tuple, image)?;
+    ask(place, Rule::Closed, stays)
 }
 
 /// A tuple without words, in whose rooms every tuple fits.
@@ -70,7 +76,8 @@ fn roomy(alloc: Global, tuple: &Tuple) -> Result<Tuple, OutOfMemory>
     Tuple::with_room(alloc, tuple.rank(), MOST_WORDS, MOST_LETTERS as usize)
 }
 
-/// Judges the `at` lines of a level of rank MOST_LEVEL_RANK at most, of which the first is at a place.
+/// Judges the `at` lines of a level of rank MOST_LEVEL_RANK at most, of which the first is at a place. That the level is closed
+/// is asked of all tuples at once, and only where it isn't of one after the other.
 fn judge_tuples(
     alloc: Global,
     place: usize,
@@ -85,9 +92,10 @@ fn judge_tuples(
     ensures { Judges (asked_below (at_asked place root.now.plain second.now.plain (plains tuples.now)) (length (plains tuples.now))) result }
 {
     let mut image = roomy(alloc, root)?;
+    let closed = all_closed(alloc, listed, &mut image)?;
     for k in 0..tuples.len() {
         judge_tuple(place + k, root, second, tuples, k)?;
-        judge_images(alloc, place + k, listed, &tuples[k], &mut image)?;
+        judge_images(alloc, place + k, listed, closed, &tuples[k], &mut image)?;
     }
     Ok(())
 }

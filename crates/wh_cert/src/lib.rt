@@ -3,6 +3,7 @@
 
 mod certificate;
 mod checked;
+mod closure;
 mod images;
 pub mod laws;
 mod levels;

@@ -7,10 +7,14 @@ use Rattle.wh_cert.specs.Checks.{AreMet}
 use Rattle.wh_cert.specs.Judged.{Judges}
 use Rattle.wh_cert.proofs.Judging.{none_asked, met_ok, stopped_first, judged_after, judged_in_turn, met_in_turn}
 use Rattle.wh_cert.proofs.Rising.{plain_at, plain_listed}
+use Rattle.wh_cert.proofs.JudgedOrbits.{listed_ranks}
 use Rattle.wh_cert.proofs.levels.judge_tuples.Goals as goal
 
+pub all_closed-requires-clause-ranks : goal.all_closed-requires-clause-ranks
+all_closed-requires-clause-ranks c = listed_ranks c.args.listed.now c.args.tuples.now c.requires.same c.requires.ranks
+
 pub loop-k-init : goal.loop-k-init
-loop-k-init c = (c.in_ok-image.ensures, none_asked (at_asked c.args.place c.args.root.now.plain c.args.second.now.plain (plains c.args.tuples.now)))
+loop-k-init c = (c.all_closed.ensures.roomy, none_asked (at_asked c.args.place c.args.root.now.plain c.args.second.now.plain (plains c.args.tuples.now)))
 
 pub returns-in_err-judge_tuple : goal.returns-in_err-judge_tuple
 returns-in_err-judge_tuple c =
@@ -20,6 +24,11 @@ returns-in_err-judge_tuple c =
     c.in_err-judge_tuple.field-0.0 (omega (arith, c.loop-k-test.true, length-map c.args.tuples.now (λ (u : Tuple). u.plain))) c.loop-k.invariant.1
     (stopped_first order ((c.args.place + c.loop-k.k, is_closed (plains c.args.tuples.now) t) ∷ []) c.judge_tuple.result c.judge_tuple.result c.in_err-judge_tuple.field-0.0 c.judge_tuple.ensures (search rules) (search rules))
     (search rules) (search rules)
+
+pub judge_images-requires-clause-closed : goal.judge_images-requires-clause-closed
+judge_images-requires-clause-closed c = λ closed.
+    c.in_ok-closed.ensures.closed.0 closed c.index-tuples-k.result.plain
+    ((c.requires.same c.index-tuples-k.result.plain).1 (plain_listed c.args.tuples.now c.loop-k.k c.index-tuples-k.result (search rules) (search rules)))
 
 pub judge_images-requires-clause-own : goal.judge_images-requires-clause-own
 judge_images-requires-clause-own c =
