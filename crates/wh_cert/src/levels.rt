@@ -76,8 +76,32 @@ fn roomy(alloc: Global, tuple: &Tuple) -> Result<Tuple, OutOfMemory>
     Tuple::with_room(alloc, tuple.rank(), MOST_WORDS, MOST_LETTERS as usize)
 }
 
-/// Judges the `at` lines of a level of rank MOST_LEVEL_RANK at most, of which the first is at a place. That the level is closed
-/// is asked of all tuples at once, and only where it isn't of one after the other.
+/// Judges the `at` lines of a level of rank MOST_LEVEL_RANK at most, of which the first is at a place. `image` is written
+/// over. Whether the level is closed is asked of all tuples at once, and only where it isn't of one after the other.
+fn judge_each_tuple(
+    alloc: Global,
+    place: usize,
+    root: &Tuple,
+    second: &Tuple,
+    tuples: &[Tuple],
+    listed: &TupleSet,
+    image: &mut Tuple,
+) -> Result<(), Stop>
+    requires ranks { All (λ t. t.plain.rank ≤ most_level_rank) tuples.now }
+    requires same { HaveSameTuples listed.now (plains tuples.now) }
+    requires low { place ≤ 1000 }
+    requires roomy { IsRoomy image.old }
+    ensures { Judges (asked_below (at_asked place root.now.plain second.now.plain (plains tuples.now)) (length (plains tuples.now))) result }
+{
+    let closed = all_closed(alloc, listed, image)?;
+    for k in 0..tuples.len() {
+        judge_tuple(place + k, root, second, tuples, k)?;
+        judge_images(alloc, place + k, listed, closed, &tuples[k], image)?;
+    }
+    Ok(())
+}
+
+/// Judges the `at` lines of a level of rank MOST_LEVEL_RANK at most, of which the first is at a place.
 fn judge_tuples(
     alloc: Global,
     place: usize,
@@ -92,12 +116,7 @@ fn judge_tuples(
     ensures { Judges (asked_below (at_asked place root.now.plain second.now.plain (plains tuples.now)) (length (plains tuples.now))) result }
 {
     let mut image = roomy(alloc, root)?;
-    let closed = all_closed(alloc, listed, &mut image)?;
-    for k in 0..tuples.len() {
-        judge_tuple(place + k, root, second, tuples, k)?;
-        judge_images(alloc, place + k, listed, closed, &tuples[k], &mut image)?;
-    }
-    Ok(())
+    judge_each_tuple(alloc, place, root, second, tuples, listed, &mut image)
 }
 
 /// Judges the `level` line, which is at a place, and the `at` lines of a level of rank MOST_LEVEL_RANK at most.

@@ -8,7 +8,7 @@ use Rattle.wh_cert.specs.Judged.{Judges}
 use Rattle.wh_cert.proofs.Judging.{none_asked, met_ok, stopped_first, judged_after, judged_in_turn, met_in_turn}
 use Rattle.wh_cert.proofs.Rising.{plain_at, plain_listed}
 use Rattle.wh_cert.proofs.JudgedOrbits.{listed_ranks}
-use Rattle.wh_cert.proofs.levels.judge_tuples.Goals as goal
+use Rattle.wh_cert.proofs.levels.judge_each_tuple.Goals as goal
 
 pub all_closed-requires-clause-ranks : goal.all_closed-requires-clause-ranks
 all_closed-requires-clause-ranks c = listed_ranks c.args.listed.now c.args.tuples.now c.requires.same c.requires.ranks
