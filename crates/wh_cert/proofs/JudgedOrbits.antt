@@ -11,7 +11,7 @@ use Rattle.wh_words.specs.Moves.{Move}
 use Rattle.wh_words.specs.Action.{act}
 use Rattle.wh_words.specs.Levels.{IsLevelMove}
 use Rattle.wh_sets.specs.TupleSets.{HaveSameTuples}
-use Rattle.wh_text.specs.AnswerData.{plains}
+use Rattle.wh_data.specs.AnswerData.{plains}
 use Rattle.wh_cert.specs.Demands.{ImagesAreIn}
 use Rattle.wh_cert.specs.Orbits.{OrbitsAreIn, IsClosed, HasEarlierImage, IsPermutedIn, IsJudgedAt, AreJudgedBefore, IsJudged}
 use Rattle.wh_cert.proofs.PermutedLetters.{permuting_level, level_tuple, permuted_back}
