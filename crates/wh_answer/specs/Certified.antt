@@ -6,7 +6,7 @@ use Rattle.wh_words.specs.Moves.{Move}
 use Rattle.wh_words.specs.Action.{act_all}
 use Rattle.wh_words.specs.Levels.{InLevel}
 use Rattle.wh_peak.specs.Equivalence.{AreMovesOfRank}
-use Rattle.wh_peak.specs.Automorphisms.{composite}
+use Rattle.wh_words.specs.Composites.{composite}
 use Rattle.wh_peak.specs.Stabilisers.{LeadsToFlat}
 use Rattle.wh_nielsen.specs.Automorphisms.{IsAutomorphism, act_by, IsCarried}
 use Rattle.wh_data.specs.AnswerTexts.{answer_text}

@@ -146,7 +146,7 @@ word_undone n k (x ∷ w) h =
     ∙ ap (λ v. free_reduction (v ++ rest)) (letter_undone n k x h)
     ∙ ap (put_before x) (word_undone n k w h)
 
-image_cancels : (n : ℕ) (k : Kind) → IsKind n k → (x : ℕ) → free_reduction (image k x ++ image k (inverse_letter x)) ≡ []
+pub image_cancels : (n : ℕ) (k : Kind) → IsKind n k → (x : ℕ) → free_reduction (image k x ++ image k (inverse_letter x)) ≡ []
 image_cancels n k h x =
     ap (λ v. free_reduction (image k x ++ v)) (image_of_inverse n k x h ∙ sym (append-nil (inverse_word (image k x))))
     ∙ cancels (image k x) []

@@ -25,7 +25,7 @@ at_end : (u v : List ℕ) → free_reduction v ≡ [] → free_reduction (u ++ v
 at_end u v e = sym (free_reduction-append_right u v) ∙ ap (λ t. free_reduction (u ++ t)) e ∙ ap free_reduction (append-nil u)
 
 module _ (f : ℕ → List ℕ) (cancels : (x : ℕ) → free_reduction (f x ++ f (inverse_letter x)) ≡ []) where
-  deleted : {w v : List ℕ} → DeletesTo w v → free_reduction (flat_map f w) ≡ free_reduction (flat_map f v)
+  pub deleted : {w v : List ℕ} → DeletesTo w v → free_reduction (flat_map f w) ≡ free_reduction (flat_map f v)
   deleted none = refl
   deleted (pair front x back d) =
       ap free_reduction (flat_map-append f front (x ∷ inverse_letter x ∷ back))

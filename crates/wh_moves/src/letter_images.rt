@@ -30,7 +30,7 @@ fn cut_image(alloc: Global, mult: Letter, set: LetterSet, x: Letter) -> Result<W
 }
 
 /// The image of a letter under a move.
-fn image_word(alloc: Global, m: &Move, x: Letter) -> Result<Word, OutOfMemory>
+pub(crate) fn image_word(alloc: Global, m: &Move, x: Letter) -> Result<Word, OutOfMemory>
     ensures { IfOk result (λ w. w ≡ image m.now.kind x) }
 {
     match m.kind() {

@@ -8,7 +8,8 @@ use Rattle.wh_words.specs.Moves.{Move}
 use Rattle.wh_words.specs.MoveLists.{inverse_list}
 use Rattle.wh_words.proofs.LetterMaps.{inverse_below}
 use Rattle.wh_peak.specs.Equivalence.{AreMovesOfRank}
-use Rattle.wh_peak.specs.Automorphisms.{substitute_all, AreAlike}
+use Rattle.wh_words.specs.Composites.{substitute_all}
+use Rattle.wh_peak.specs.Automorphisms.{AreAlike}
 use Rattle.wh_peak.specs.Laws.{AlikeIsReflexive, AlikeIsSymmetric, AlikeIsTransitive, AlikeBetweenLists, AlikeListsActAlike, OneCompositeActsAlike, InverseListsCancel}
 use Rattle.wh_peak.proofs.FreeWords.{ReducedWord, run, run-append, Same, inverse_of, red_of, same_red, run-inverse_right, inverse_of-left, inverse_of-append, inverse_of-inverse_of, inverse_of-same}
 use Rattle.wh_peak.proofs.ActionFacts.{normal, normal-same, normal-conjugate}

@@ -12,7 +12,8 @@ use Rattle.wh_words.specs.Moves.{Move}
 use Rattle.wh_words.specs.Images.{inverse_word}
 use Rattle.wh_words.proofs.LetterMaps.{inverse_below}
 use Rattle.wh_peak.specs.Equivalence.{AreMovesOfRank}
-use Rattle.wh_peak.specs.Automorphisms.{substitute_all, AreAlike}
+use Rattle.wh_words.specs.Composites.{substitute_all}
+use Rattle.wh_peak.specs.Automorphisms.{AreAlike}
 use Rattle.wh_peak.proofs.FreeWords.{ReducedWord, cancel_left, run, run-append, Same, inverse_of, run-inverse_left, red_of, run-inverse_right}
 use Rattle.wh_peak.proofs.Substitutions.{Substitution, flat_map-same, substitute_by, substitute_by-inverse_of}
 use Rattle.wh_peak.proofs.KindLists.{substitute_kinds, substitute_kinds-of_rank, one_letter}

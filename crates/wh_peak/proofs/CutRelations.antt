@@ -15,10 +15,11 @@ use Rattle.wh_graph.specs.Laws.{is_of}
 use Rattle.wh_graph.proofs.SetNumbers.{holds, omits}
 use Rattle.wh_words.proofs.LetterMaps.{inverse_below}
 use Rattle.wh_peak.specs.Equivalence.{AreMovesOfRank}
-use Rattle.wh_peak.specs.Automorphisms.{substitute_all}
+use Rattle.wh_words.specs.Composites.{substitute_all}
 use Rattle.wh_words.specs.Moves.Kind.{cut}
 use Rattle.wh_peak.proofs.CutForms as cuts_of
-use Rattle.wh_peak.specs.Relations.{swap_move, invert_move, MapsLetters, carry, cut_back, CutsCancel, CutsUnite, CutsCommute, CutsConjugate, CutsExchange, CutsComplement, InnerIsKept, InnerIsMoved, SwapsTakeCuts, InversionsTakeCuts}
+use Rattle.wh_moves.specs.SignedPerms.{carry}
+use Rattle.wh_peak.specs.Relations.{swap_move, invert_move, MapsLetters, cut_back, CutsCancel, CutsUnite, CutsCommute, CutsConjugate, CutsExchange, CutsComplement, InnerIsKept, InnerIsMoved, SwapsTakeCuts, InversionsTakeCuts}
 use Rattle.wh_peak.proofs.FreeWords.{run, Same, same_red, Same-append}
 use Rattle.wh_peak.proofs.Substitutions.{substitute_by}
 use Rattle.wh_peak.proofs.EqualComposites.{Agree, Agree-sym, Inverse-append, move_left}

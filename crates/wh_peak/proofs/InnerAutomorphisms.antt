@@ -17,7 +17,7 @@ use Rattle.wh_words.proofs.FreeReduction.{inverse-other}
 use Rattle.wh_graph.proofs.SetNumbers.{mask, mask_bit, mask_cut}
 use Rattle.wh_words.proofs.LetterMaps.{inverse_below}
 use Rattle.wh_peak.specs.Equivalence.{IsMoveOfRank, AreMovesOfRank}
-use Rattle.wh_peak.specs.Automorphisms.{substitute_all}
+use Rattle.wh_words.specs.Composites.{substitute_all}
 use Rattle.wh_peak.proofs.FreeWords.{put, cancel_left, cancel_right, run, run-append, Same, inverse_of}
 use Rattle.wh_peak.proofs.ConjugatedCuts.{eqb-same}
 use Rattle.wh_peak.proofs.InnerCuts.{inner}

@@ -1,13 +1,15 @@
 -- Steps of a rank: their letters are, and each map of letters is a list of swaps and inversions.
-use Rattle.wh_peak.specs.Relations.{carry}
+use Rattle.wh_moves.specs.SignedPerms.{carry}
 use Rattle.wh_words.proofs.LetterMaps.{inverse_below, swap_below, invert_below}
-use Rattle.std.proofs.Common.{◌≡◌, ℕ, ◌*◌, ◌<◌, List, [], ◌∷◌, refl, subst, arith}
+use Rattle.std.proofs.Common.{◌≡◌, ℕ, ◌+◌, ◌*◌, ◌/◌, ◌<◌, List, [], ◌∷◌, refl, subst, inl, inr, arith}
+use Rattle.std.proofs.lemmas.Bool.{cases_eq}
 use Rattle.std.specs.Prelude.{false, ◌++◌}
 use Rattle.wh_words.specs.Moves.{Kind, IsKind}
 use Rattle.wh_words.specs.Moves.Kind.{swap, invert, cut}
 use Rattle.wh_peak.proofs.CarriedLetters.{is-back}
 use Rattle.wh_peak.proofs.Steps.{Step, back}
-use Rattle.wh_peak.proofs.SwapWords.{IsTurn, AreTurns, letter_map, letters_map}
+use Rattle.wh_moves.specs.SignedPerms.{IsTurn, letter_map}
+use Rattle.wh_peak.proofs.SwapWords.{AreTurns, letters_map}
 use Rattle.wh_peak.proofs.CarryWords.{Word, carry_word}
 use Rattle.wh_peak.proofs.KindSteps.{step_of}
 use Rattle.wh_graph.specs.Laws.{is_of}
@@ -45,8 +47,8 @@ pub word_below : (n : ℕ) (p : ℕ → ℕ) → Word n p → (x : ℕ) → x < 
 word_below n p w x h = subst (λ (y : ℕ). y < 2 * n) (w.is x) (letters_below n w.list x w.turns h)
 
 unfoldable pub Ranked-step : (n : ℕ) (k : Kind) (h : IsKind n k) → Ranked n (step_of n k h)
-Ranked-step n (swap k) h = (record { list = swap k ∷ []; turns = (h, tt); short = omega (arith, h.0, h.1); is = λ x. refl }, record { list = swap k ∷ []; turns = (h, tt); short = omega (arith, h.0, h.1); is = λ x. refl })
-Ranked-step n (invert k) h = (record { list = invert k ∷ []; turns = (h, tt); short = omega (arith, h.0, h.1); is = λ x. refl }, record { list = invert k ∷ []; turns = (h, tt); short = omega (arith, h.0, h.1); is = λ x. refl })
+Ranked-step n (swap k) h = (record { list = swap k ∷ []; turns = (h, tt); is = λ x. refl }, record { list = swap k ∷ []; turns = (h, tt); is = λ x. refl })
+Ranked-step n (invert k) h = (record { list = invert k ∷ []; turns = (h, tt); is = λ x. refl }, record { list = invert k ∷ []; turns = (h, tt); is = λ x. refl })
 Ranked-step n (cut a s) h = h.of_rank
 
 -- A map of letters doesn't stand alone.

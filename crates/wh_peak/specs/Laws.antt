@@ -8,7 +8,8 @@ use Rattle.wh_words.specs.Traces.{IsFlat}
 use Rattle.wh_words.specs.CapacityTraces.{IsFlatByCapacities, IsCapacityTrace}
 use Rattle.wh_words.specs.Levels.{Reaches, InLevel, IsFirstWalk}
 use Rattle.wh_peak.specs.Equivalence.{IsMoveOfRank, AreMovesOfRank, AreEquivalent, IsShortest}
-use Rattle.wh_peak.specs.Automorphisms.{composite, AreAlike, Fixes}
+use Rattle.wh_words.specs.Composites.{composite}
+use Rattle.wh_peak.specs.Automorphisms.{AreAlike, Fixes}
 use Rattle.wh_peak.specs.Relations.{IsTrivial}
 use Rattle.wh_peak.specs.Stabilisers.{LeadsToFlat, ArePaths, IsGenerator, IsProduct, IsWordOf}
 use Rattle.wh_peak.specs.Straightness.{IsStraightened, IsLowered}

@@ -14,6 +14,7 @@ pub mod TupleFlows
 pub mod Traces
 pub mod CapacityTraces
 pub mod MoveLists
+pub mod Composites
 pub mod Levels
 pub mod Laws
 -- How this crate keeps and writes words.
