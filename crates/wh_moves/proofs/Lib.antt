@@ -6,6 +6,3 @@ pub mod IdentityCuts
 pub mod InverseMoves
 pub mod Masks
 pub mod Substitutions
-pub mod ComposedImages
-pub mod Bubbling
-pub mod SignedPerms

@@ -2,9 +2,6 @@ pub mod Kinds
 pub mod Packing
 pub mod MoveOrders
 pub mod Acts
-pub mod Limits
-pub mod Composing
-pub mod SignedPerms
 pub mod Laws
 -- The definitions of the theory, for the crates above.
 pub use Rattle.wh_words.specs.Moves

@@ -33,7 +33,8 @@ fn is_generator(word: &Word, g: usize) -> bool
 }
 
 impl Images {
-    pub(crate) fn of(words: Vec<Word>) -> Images
+    /// The words as images, that of the first generator first.
+    pub fn of(words: Vec<Word>) -> Images
         ensures { result ≡ words.items }
     {
         Images {

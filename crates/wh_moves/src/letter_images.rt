@@ -29,8 +29,8 @@ fn cut_image(alloc: Global, mult: Letter, set: LetterSet, x: Letter) -> Result<W
     }
 }
 
-/// The image of a letter under a move.
-pub(crate) fn image_word(alloc: Global, m: &Move, x: Letter) -> Result<Word, OutOfMemory>
+/// The image of a letter under a move, a reduced word (Lyndon and Schupp, I.4).
+pub fn image_word(alloc: Global, m: &Move, x: Letter) -> Result<Word, OutOfMemory>
     ensures { IfOk result (λ w. w ≡ image m.now.kind x) }
 {
     match m.kind() {

@@ -18,7 +18,7 @@ use Rattle.wh_peak.specs.Equivalence.{AreMovesOfRank}
 use Rattle.wh_words.specs.Composites.{substitute_all}
 use Rattle.wh_words.specs.Moves.Kind.{cut}
 use Rattle.wh_peak.proofs.CutForms as cuts_of
-use Rattle.wh_moves.specs.SignedPerms.{carry}
+use Rattle.wh_composites.specs.SignedPerms.{carry}
 use Rattle.wh_peak.specs.Relations.{swap_move, invert_move, MapsLetters, cut_back, CutsCancel, CutsUnite, CutsCommute, CutsConjugate, CutsExchange, CutsComplement, InnerIsKept, InnerIsMoved, SwapsTakeCuts, InversionsTakeCuts}
 use Rattle.wh_peak.proofs.FreeWords.{run, Same, same_red, Same-append}
 use Rattle.wh_peak.proofs.Substitutions.{substitute_by}

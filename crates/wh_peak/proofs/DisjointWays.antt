@@ -1,5 +1,5 @@
 -- From the tuple after one cut to the tuple after another with a disjoint set, by shorter tuples.
-use Rattle.wh_moves.specs.SignedPerms.{carry}
+use Rattle.wh_composites.specs.SignedPerms.{carry}
 use Rattle.wh_words.proofs.LetterMaps.{inverse_below}
 use Rattle.std.specs.List.{flat_map}
 use Rattle.std.proofs.Common.{◌≡◌, ℕ, ◌+◌, ◌*◌, ◌≤◌, ◌<◌, List, [], ◌∷◌, refl, sym, ap, inl, inr, ◌∙◌, arith, length}

@@ -1,5 +1,5 @@
 -- Steps of a rank: their letters are, and each map of letters is a list of swaps and inversions.
-use Rattle.wh_moves.specs.SignedPerms.{carry}
+use Rattle.wh_composites.specs.SignedPerms.{carry}
 use Rattle.wh_words.proofs.LetterMaps.{inverse_below, swap_below, invert_below}
 use Rattle.std.proofs.Common.{◌≡◌, ℕ, ◌+◌, ◌*◌, ◌/◌, ◌<◌, List, [], ◌∷◌, refl, subst, inl, inr, arith}
 use Rattle.std.proofs.lemmas.Bool.{cases_eq}
@@ -8,7 +8,7 @@ use Rattle.wh_words.specs.Moves.{Kind, IsKind}
 use Rattle.wh_words.specs.Moves.Kind.{swap, invert, cut}
 use Rattle.wh_peak.proofs.CarriedLetters.{is-back}
 use Rattle.wh_peak.proofs.Steps.{Step, back}
-use Rattle.wh_moves.specs.SignedPerms.{IsTurn, letter_map}
+use Rattle.wh_composites.specs.SignedPerms.{IsTurn, letter_map}
 use Rattle.wh_peak.proofs.SwapWords.{AreTurns, letters_map}
 use Rattle.wh_peak.proofs.CarryWords.{Word, carry_word}
 use Rattle.wh_peak.proofs.KindSteps.{step_of}

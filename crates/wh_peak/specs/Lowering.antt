@@ -6,7 +6,7 @@ use Rattle.wh_words.specs.LetterSets.{in_set}
 use Rattle.wh_words.specs.Tuples.{TupleData, tuple_length}
 use Rattle.wh_words.specs.Moves.{Kind, Move, IsCut, cut_move}
 use Rattle.wh_words.specs.Action.{act}
-use Rattle.wh_moves.specs.SignedPerms.{IsTurnOfRank, letter_map, TakeLetters}
+use Rattle.wh_composites.specs.SignedPerms.{IsTurnOfRank, letter_map, TakeLetters}
 use Rattle.wh_peak.specs.Relations.{HasLetters}
 
 -- A move, then swaps and inversions of rank n that take letters as a map does, and then a move.

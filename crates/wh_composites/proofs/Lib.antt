@@ -1,0 +1,3 @@
+pub mod ComposedImages
+pub mod SignedPerms
+pub mod Bubbling

@@ -1,5 +1,0 @@
-use Rattle.wh_moves.proofs.ComposedImages.{AreComposed}
-use Rattle.wh_moves.proofs.composing.compose.Given as goal
-
-abbrev pub invariant-loop-made : goal.invariant-loop-made
-invariant-loop-made l = AreComposed l.fn.rank l.list l.made l.images.items

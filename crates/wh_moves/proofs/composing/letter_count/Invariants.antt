@@ -1,6 +1,0 @@
-use Rattle.std.proofs.Common.{◌≡◌, take}
-use Rattle.wh_moves.specs.Composing.{letter_count}
-use Rattle.wh_moves.proofs.composing.letter_count.Given as goal
-
-abbrev pub invariant-loop-word : goal.invariant-loop-word
-invariant-loop-word l = l.total ≡ letter_count (take l.word-index l.words)
