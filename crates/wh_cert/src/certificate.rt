@@ -214,8 +214,9 @@ fn number_at(lines: &[u32], place: usize) -> u32
 
 /// Judges a certificate, that is an answer of `reduce` or `decide` that was read from a text, by rules alone: `Valid`, or
 /// the first line that breaks a rule with the first rule that it breaks. Every move is made, every flow is tested, and
-/// every swap, every inversion and every set of letters is tried as a level move; nothing is taken from the search for the
-/// answer (Lyndon and Schupp, I.4; Roig, Ventura and Weil 2007).
+/// it is tried whether a level move leads out of a level: of every tuple by swaps and an inversion, and by every set of
+/// letters of a tuple of each orbit under these at least. Nothing is taken from the search for the answer (Lyndon and
+/// Schupp, I.4; Roig, Ventura and Weil 2007).
 pub fn check(alloc: Global, numbered: &Numbered) -> Result<Checked, OutOfMemory>
     requires { IsNumbered (certificate_of numbered.now) }
     ensures { IfOk result (Checks (certificate_of numbered.now)) }

@@ -1,6 +1,6 @@
-//! Whether a list of tuples is closed under level moves, told orbit by orbit. Swaps and inversions permute the letters: they
-//! are level moves of every tuple, and take cuts to cuts (Lyndon and Schupp, I.4). So where a list has the images of its
-//! tuples under swaps and inversions, a tuple stays in it under cuts if such an image does.
+//! Whether a list of tuples is closed under level moves, told orbit by orbit. Swaps and inversions permute the letters:
+//! they are level moves of every tuple, and take cuts to cuts (Lyndon and Schupp, I.4). So where a list has the images
+//! of its tuples under swaps and inversions, a tuple stays in it under cuts if such an image does.
 ghost use Rattle.std.specs.Prelude.{◌≡◌, ◌↔◌, ◌<◌, ◌≤◌, length, slice_get, Some, Contains, IsTrue, MatchOption, IfOk};
 ghost use Rattle.std.specs.List.{All};
 ghost use Rattle.wh_words.specs.Limits.{most_level_rank};
@@ -17,8 +17,8 @@ use wh_moves::{Move, act_into};
 use wh_sets::TupleSet;
 use wh_words::{OutOfMemory, Tuple};
 
-/// Whether the image of a tuple under a swap or an inversion, which `image` becomes, stands in a list before a place. None
-/// where it isn't in the list.
+/// Whether the image of a tuple under a swap or an inversion, which `image` becomes, stands in a list before a place.
+/// None where it isn't in the list.
 fn is_earlier(
     listed: &TupleSet,
     tuple: &Tuple,
@@ -37,8 +37,9 @@ fn is_earlier(
     Some(listed.place(image)? < place)
 }
 
-/// Whether an image of a tuple under a swap or the inversion of the first generator stands in a list before a place. None
-/// where one of these images isn't in the list. They tell of the inversions of the others, which swaps carry to the first.
+/// Whether an image of a tuple under a swap or the inversion of the first generator stands in a list before a place.
+/// None where one of these images isn't in the list. They tell of the inversions of the others, which swaps carry to
+/// the first.
 fn has_earlier_image(
     listed: &TupleSet,
     tuple: &Tuple,
@@ -58,8 +59,8 @@ fn has_earlier_image(
     Some(earlier || inverted)
 }
 
-/// Whether an image of a tuple under the inversion of another generator than the first stands in a list before a place. None
-/// where one that is tried isn't in the list.
+/// Whether an image of a tuple under the inversion of another generator than the first stands in a list before a place.
+/// None where one that is tried isn't in the list.
 fn has_earlier_inversion(
     listed: &TupleSet,
     tuple: &Tuple,
@@ -97,8 +98,8 @@ fn follows_its_orbit(
     )
 }
 
-/// Whether the images of the tuple at a place of a list under its swaps and inversions are in the list, and those under its
-/// cuts too where no image that stands before the tuple tells of them.
+/// Whether the images of the tuple at a place of a list under its swaps and inversions are in the list, and those under
+/// its cuts too where no image that stands before the tuple tells of them.
 fn is_judged(
     alloc: Global,
     listed: &TupleSet,
@@ -119,8 +120,8 @@ fn is_judged(
     }
 }
 
-/// Whether the images of all tuples of a list under their level moves are in the list, where the ranks are MOST_LEVEL_RANK at
-/// most.
+/// Whether the images of all tuples of a list under their level moves are in the list, where the ranks are
+/// MOST_LEVEL_RANK at most.
 pub(crate) fn all_closed(
     alloc: Global,
     listed: &TupleSet,
