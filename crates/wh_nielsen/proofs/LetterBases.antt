@@ -1,5 +1,5 @@
 -- Bases whose words are letters: swaps and inversions make them.
-use Rattle.wh_peak.specs.Relations.{carry}
+use Rattle.wh_composites.specs.SignedPerms.{carry}
 use Rattle.std.proofs.Common.{◌≡◌, ◌≢◌, ℕ, zero, suc, ◌+◌, ◌*◌, ◌<◌, ◌≤◌, List, [], ◌∷◌, refl, sym, ap, subst, inl, inr, ◌∙◌, arith, length, append-nil}
 use Rattle.std.proofs.lemmas.Bool.{cases_eq}
 use Rattle.std.specs.Prelude.{false}

@@ -4,6 +4,8 @@
 #[cfg(test)]
 mod command_line;
 #[cfg(test)]
+mod composites;
+#[cfg(test)]
 mod devices;
 #[cfg(test)]
 mod graphs;
