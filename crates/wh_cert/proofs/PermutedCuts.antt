@@ -14,7 +14,8 @@ use Rattle.wh_words.specs.Moves.Kind.{cut}
 use Rattle.wh_words.specs.Images.{image}
 use Rattle.wh_words.specs.Action.{substitute, act}
 use Rattle.wh_words.proofs.FreeReduction.{inverse_generator}
-use Rattle.wh_words.proofs.ImageLetters.{inverse_below, image_of_rank}
+use Rattle.wh_words.proofs.ImageLetters.{image_of_rank}
+use Rattle.wh_words.proofs.LetterMaps.{inverse_below}
 use Rattle.wh_words.proofs.CutWords.{around, own_image, other_image}
 use Rattle.wh_graph.proofs.SetNumbers.{mask, mask_has, mask_cut, holds, omits}
 use Rattle.wh_cert.specs.Orbits.{PermutesLetters}

@@ -13,12 +13,12 @@ use Rattle.wh_words.specs.Images.{image, swap_letter, invert_letter, inverse_wor
 use Rattle.wh_words.specs.Action.{substitute, act}
 use Rattle.wh_words.specs.Levels.{IsLevelMove}
 use Rattle.wh_words.proofs.FreeReduction.{inverse-inverse, inverse_generator}
-use Rattle.wh_words.proofs.LawProofs.{cancels}
+use Rattle.wh_words.proofs.LetterMaps.{swap_back, invert_back}
 use Rattle.wh_words.proofs.ImageLetters.{act_tuple}
 use Rattle.wh_words.proofs.Mapped.{swap_turns, invert_turns}
 use Rattle.wh_words.proofs.MoveLaws.{image_of_inverse}
 use Rattle.wh_moves.proofs.Substitutions.{of_class}
-use Rattle.wh_moves.proofs.InverseMoves.{undone}
+use Rattle.wh_moves.proofs.InverseMoves.{image_cancels, undone}
 use Rattle.wh_graph.proofs.Lengths.{swaps_keep, inversions_keep}
 use Rattle.wh_cert.specs.Listings.{StaysIn, SwapsStay, InversionsStay}
 use Rattle.wh_cert.specs.Orbits.{PermutesLetters, OrbitsAreIn}
@@ -40,25 +40,9 @@ letter_turns n (swap k) v p x = swap_turns k v.0 x
 letter_turns n (invert k) v p x = invert_turns k x
 letter_turns n (cut a set) v p x = absurd p
 
-swap_twice : (k x : ℕ) → 0 < k → swap_letter k (swap_letter k x) ≡ x
-swap_twice k x h = grind (arith, nat_tests)
-
-invert_twice : (k x : ℕ) → invert_letter k (invert_letter k x) ≡ x
-invert_twice k x = elim (cases_eq (x / 2 + 1) k) [
-  | inl e ↦ (
-      let here : invert_letter k x ≡ inverse_letter x = ap (λ (b : Bool). cond b (inverse_letter x) x) (eq-eqb (x / 2 + 1) k e) in
-      let there : inverse_letter x / 2 + 1 ≡ k = ap (λ z. z + 1) (inverse_generator x) ∙ e in
-      ap (invert_letter k) here
-      ∙ ap (λ (b : Bool). cond b (inverse_letter (inverse_letter x)) (inverse_letter x)) (eq-eqb (inverse_letter x / 2 + 1) k there)
-      ∙ inverse-inverse x)
-  | inr n ↦ (
-      let here : invert_letter k x ≡ x = ap (λ (b : Bool). cond b (inverse_letter x) x) (ne_eqb (x / 2 + 1) k n) in
-      ap (invert_letter k) here ∙ here)
-]
-
 pub letter_twice : (n : ℕ) (k : Kind) → IsKind n k → PermutesLetters k → (x : ℕ) → letter k (letter k x) ≡ x
-letter_twice n (swap k) v p x = swap_twice k x v.0
-letter_twice n (invert k) v p x = invert_twice k x
+letter_twice n (swap k) v p x = swap_back k v.0 x
+letter_twice n (invert k) v p x = invert_back k x
 letter_twice n (cut a set) v p x = absurd p
 
 -- ---- words
@@ -68,12 +52,7 @@ letters_mapped k p (x ∷ w) = ap₂ (λ u v. u ++ v) (letter_image k p x) (lett
 
 -- The image of a cyclic word is that of the word.
 pub class_of_image : (n : ℕ) (k : Kind) → IsKind n k → (w : List ℕ) → cyclic_word (substitute k (cyclic_word w)) ≡ cyclic_word (substitute k w)
-class_of_image n k h w = of_class (image k) image_cancels w
-  where
-    image_cancels : (x : ℕ) → free_reduction (image k x ++ image k (inverse_letter x)) ≡ []
-    image_cancels x =
-        ap (λ v. free_reduction (image k x ++ v)) (image_of_inverse n k x h ∙ sym (append-nil (inverse_word (image k x))))
-        ∙ cancels (image k x) []
+class_of_image n k h w = of_class (image k) (image_cancels n k h) w
 
 -- ---- tuples
 -- Swaps and inversions are their own inverses.

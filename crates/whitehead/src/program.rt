@@ -1,11 +1,12 @@
 //! A run of the program.
-ghost use Rattle.std.specs.Prelude.{◌≡◌, None, map};
+ghost use Rattle.std.specs.Prelude.{◌≡◌, List, None, Some, map};
+ghost use Rattle.clap.specs.Words.{Text};
 ghost use Rattle.whitehead.specs.Asked.{asked};
 ghost use Rattle.whitehead.specs.Endings.{Finished};
 ghost use Rattle.whitehead.specs.Outcome as spec;
 ghost use Rattle.whitehead.specs.Outcome.{RanTo, IsSilent, source_count, sink_count};
 
-use crate::arguments::{Task, WordsError, read_arguments};
+use crate::arguments::{Arguments, Task, WordsError, read_arguments};
 use crate::reply::reply_to;
 use crate::streams::{InputError, read_all, write_all};
 use std::alloc::Global;
@@ -33,6 +34,29 @@ fn finish<K: Sink>(sink: &mut K, text: &[u8], status: Status) -> Status
     }
 }
 
+/// Reads the whole source for what is asked, and writes the answer or the first refusal to the sink.
+fn run_on<S: Source, K: Sink>(
+    alloc: Global,
+    arguments: Arguments,
+    source: &mut S,
+    sink: &mut K,
+) -> Status
+    ensures ran { (words : List Text) → asked words ≡ Some arguments → RanTo words (S.left source.old) (S.left source.new) (K.held sink.old) (K.held sink.new) (K.sent sink.new) result }
+    ensures read_faults { S.fault_count source.new ≡ source_count (S.fault_count source.old) result }
+    ensures write_faults { K.fault_count sink.new ≡ sink_count (K.fault_count sink.old) result }
+    ensures unwritten { IsSilent result → sink.new ≡ sink.old }
+{
+    let bytes = match read_all(alloc, source, most_input(arguments.task)) {
+        Ok(bytes) => bytes,
+        Err(InputError::Fault) => return Status::ReadFault,
+        Err(InputError::OutOfMemory) => return Status::OutOfMemory,
+    };
+    match reply_to(alloc, arguments.task, arguments.limit, &bytes) {
+        Ok(reply) => finish(sink, reply.text.items(), reply.status),
+        Err(OutOfMemory) => Status::OutOfMemory,
+    }
+}
+
 /// Runs the program: reads its words, which stand after its name, then the whole source, and writes the answer or the
 /// first refusal to the sink. The text stands whole in memory before the first byte is written.
 ///
@@ -54,18 +78,9 @@ pub fn run<S: Source, K: Sink>(
     ensures unread { asked (map (λ w. w.now) words.now) ≡ None → source.new ≡ source.old }
     ensures unwritten { IsSilent result → sink.new ≡ sink.old }
 {
-    let arguments = match read_arguments(alloc, words) {
-        Ok(arguments) => arguments,
-        Err(WordsError::Refused) => return finish(sink, refused_words(), Status::Refused),
-        Err(WordsError::OutOfMemory) => return Status::OutOfMemory,
-    };
-    let bytes = match read_all(alloc, source, most_input(arguments.task)) {
-        Ok(bytes) => bytes,
-        Err(InputError::Fault) => return Status::ReadFault,
-        Err(InputError::OutOfMemory) => return Status::OutOfMemory,
-    };
-    match reply_to(alloc, arguments.task, arguments.limit, &bytes) {
-        Ok(reply) => finish(sink, reply.text.items(), reply.status),
-        Err(OutOfMemory) => Status::OutOfMemory,
+    match read_arguments(alloc, words) {
+        Ok(arguments) => run_on(alloc, arguments, source, sink),
+        Err(WordsError::Refused) => finish(sink, refused_words(), Status::Refused),
+        Err(WordsError::OutOfMemory) => Status::OutOfMemory,
     }
 }
