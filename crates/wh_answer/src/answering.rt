@@ -10,8 +10,8 @@ ghost use Rattle.wh_answer.specs.Certified.{IsDecided, IsValid};
 use crate::deciding::decide;
 use crate::side::side_of;
 use std::alloc::Global;
-use wh_reduce::reduce;
 use wh_data::{Answer, Problem};
+use wh_reduce::reduce;
 use wh_words::{OutOfMemory, Tuple};
 
 /// The answer where a tuple is to be reduced.

@@ -13,8 +13,8 @@ ghost use Rattle.wh_answer.specs.Traced.{AreTraced, AreApart};
 use crate::finding::{Finding, find};
 use crate::side::side_of;
 use std::alloc::Global;
-use wh_reduce::{Trace, reduce};
 use wh_data::Verdict;
+use wh_reduce::{Trace, reduce};
 use wh_words::{List, OutOfMemory, Tuple};
 
 /// The verdict where the traces end at different lengths.

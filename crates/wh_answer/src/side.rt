@@ -7,8 +7,8 @@ ghost use Rattle.wh_data.specs.AnswerTexts.{IsPrintableSide};
 ghost use Rattle.wh_answer.specs.Answers.{IsSideOf};
 
 use std::alloc::Global;
-use wh_reduce::{Trace, flows};
 use wh_data::Side;
+use wh_reduce::{Trace, flows};
 use wh_words::{List, OutOfMemory};
 
 /// The side of the tuple that has this trace.

@@ -16,8 +16,8 @@ use crate::levels::judge_level;
 use crate::sides::{carried, judge_flows, judge_trace};
 use crate::stop::{Stop, ask};
 use std::alloc::Global;
-use wh_moves::Move;
 use wh_data::{Answer, Numbered, Side, Verdict};
+use wh_moves::Move;
 use wh_words::{Letter, OutOfMemory, Rank, Tuple};
 
 /// How many lines a side of a rank has.

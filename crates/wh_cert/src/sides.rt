@@ -14,10 +14,10 @@ ghost use Rattle.wh_cert.specs.Judged.{Judges, CarriesTo};
 use crate::checked::Rule;
 use crate::stop::{Stop, ask};
 use std::alloc::Global;
+use wh_data::Side;
 use wh_flow::{Flow, Net, check_flow};
 use wh_graph::{deg, graph};
 use wh_moves::{ActError, Move, act_all};
-use wh_data::Side;
 use wh_words::{Letter, OutOfMemory, Tuple};
 
 /// The tuple that moves carry a tuple to. None exactly where a tuple on the way has more than 4,096 letters.

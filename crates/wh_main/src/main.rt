@@ -5,8 +5,8 @@ use std::alloc::Global;
 use std::env;
 use std::io::{self, ErrorKind};
 use std::process::ExitCode;
-use wh_io::{StdSink, StdSource};
 use wh_data::Status;
+use wh_io::{StdSink, StdSource};
 use whitehead::run;
 
 /// The words after the program's name.

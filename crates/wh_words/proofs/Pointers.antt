@@ -46,14 +46,17 @@ scan_above f i j k c order above = record {
   same = λ m h. absurd (omega (arith, h));
   beaten = λ t h n. elim (cases_lt t j) [
     | inl b ↦ c.beaten t b n
-    | inr b ↦ (i, record {
-      at = 0;
-      same = λ m l. absurd (omega (arith, l));
-      less =
-          let p : i ≡ i + 0 = omega arith in
-          let q : t ≡ t + 0 = omega arith in
-          subst (λ (a : ℕ). f a < f (t + 0)) p (subst (λ (b : ℕ). f i < f b) q (above t b h));
-    })
+    | inr b ↦ (
+      i,
+      record {
+        at = 0;
+        same = λ m l. absurd (omega (arith, l));
+        less =
+            let p : i ≡ i + 0 = omega arith in
+            let q : t ≡ t + 0 = omega arith in
+            subst (λ (a : ℕ). f a < f (t + 0)) p (subst (λ (b : ℕ). f i < f b) q (above t b h));
+      },
+    )
   ];
 }
 
