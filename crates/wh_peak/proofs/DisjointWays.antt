@@ -94,26 +94,27 @@ module _ (N : ℕ) (u : List (List ℕ)) (h : AreCyclic u) (a b : ℕ) (la : a <
     between = tt;
   }
 
-  unfoldable pub way_two : (b ≡ inverse_letter a → ⊥) → B (inverse_letter a) ≡ false → DisjointWay N u a A b B
+  unfoldable pub way_two_joined : (b ≡ inverse_letter a → ⊥) → B (inverse_letter a) ≡ false → A (inverse_letter b) ≡ true → DisjointWay N u a A b B
   unfolding acts
-  way_two e k = elim (cases_Bool (A (inverse_letter b))) [
-    | inl t ↦ record {
-      list = cuts b B d ∷ cuts (inverse_letter a) (turned a (union_without A B b)) (turned-cut a (union_without A B b)) ∷ [];
-      few = omega arith;
-      joint = tt;
-      ranked = (lb, (inverse_below N a la, tt));
-      same = Agree-sym (undo a A ∷ cutting b B ∷ []) (cutting b B ∷ undo a (union_without A B b) ∷ []) (two_joined a b A B c d n e k t);
-      between = (pair_short k (not-at a b A B c d n e), tt);
-    }
-    | inr t ↦ record {
-      list = cuts b B d ∷ cuts (inverse_letter a) (turned a A) (turned-cut a A) ∷ [];
-      few = omega arith;
-      joint = tt;
-      ranked = (lb, (inverse_below N a la, tt));
-      same = Agree-sym (undo a A ∷ cutting b B ∷ []) (cutting b B ∷ undo a A ∷ []) (two_apart a b A B c d n e k t);
-      between = (pair_short k (not-at a b A B c d n e), tt);
-    }
-  ]
+  way_two_joined e k t = record {
+    list = cuts b B d ∷ cuts (inverse_letter a) (turned a (union_without A B b)) (turned-cut a (union_without A B b)) ∷ [];
+    few = omega arith;
+    joint = tt;
+    ranked = (lb, (inverse_below N a la, tt));
+    same = Agree-sym (undo a A ∷ cutting b B ∷ []) (cutting b B ∷ undo a (union_without A B b) ∷ []) (two_joined a b A B c d n e k t);
+    between = (pair_short k (not-at a b A B c d n e), tt);
+  }
+
+  unfoldable pub way_two_apart : (b ≡ inverse_letter a → ⊥) → B (inverse_letter a) ≡ false → A (inverse_letter b) ≡ false → DisjointWay N u a A b B
+  unfolding acts
+  way_two_apart e k t = record {
+    list = cuts b B d ∷ cuts (inverse_letter a) (turned a A) (turned-cut a A) ∷ [];
+    few = omega arith;
+    joint = tt;
+    ranked = (lb, (inverse_below N a la, tt));
+    same = Agree-sym (undo a A ∷ cutting b B ∷ []) (cutting b B ∷ undo a A ∷ []) (two_apart a b A B c d n e k t);
+    between = (pair_short k (not-at a b A B c d n e), tt);
+  }
 
   unfoldable pub way_three : (b ≡ inverse_letter a → ⊥) → B (inverse_letter a) ≡ true → A (inverse_letter b) ≡ false → DisjointWay N u a A b B
   unfolding acts
@@ -178,7 +179,7 @@ module _ (N : ℕ) (u : List (List ℕ)) (h : AreCyclic u) (a b : ℕ) (la : a <
   disjoint_way = elim (cases_eq b (inverse_letter a)) [
     | inl e ↦ way_one e
     | inr e ↦ elim (cases_Bool (B (inverse_letter a))) [
-      | inr k ↦ way_two e k
+      | inr k ↦ elim (cases_Bool (A (inverse_letter b))) [ inl t ↦ way_two_joined e k t | inr t ↦ way_two_apart e k t ]
       | inl k ↦ elim (cases_Bool (A (inverse_letter b))) [
         | inr t ↦ way_three e k t
         | inl t ↦ elim (cases_lt (cap A u) (deg b u)) [

@@ -1,8 +1,7 @@
 -- Steps of a rank: their letters are, and each map of letters is a list of swaps and inversions.
 use Rattle.wh_composites.specs.SignedPerms.{carry}
 use Rattle.wh_words.proofs.LetterMaps.{inverse_below, swap_below, invert_below}
-use Rattle.std.proofs.Common.{◌≡◌, ℕ, ◌+◌, ◌*◌, ◌/◌, ◌<◌, List, [], ◌∷◌, refl, subst, inl, inr, arith}
-use Rattle.std.proofs.lemmas.Bool.{cases_eq}
+use Rattle.std.proofs.Common.{◌≡◌, ℕ, ◌*◌, ◌<◌, List, [], ◌∷◌, refl, subst}
 use Rattle.std.specs.Prelude.{false, ◌++◌}
 use Rattle.wh_words.specs.Moves.{Kind, IsKind}
 use Rattle.wh_words.specs.Moves.Kind.{swap, invert, cut}
@@ -34,7 +33,7 @@ Ranked-back n (maps p q hp hq qp pq) r = (r.1, r.0)
 pub carry_ranked : (n a b : ℕ) → a < 2 * n → b < 2 * n → is_of a b ≡ false → Word n (carry a b) × Word n (carry b a)
 carry_ranked n a b la lb ab = (carry_word n a b la lb ab, carry_word n b a lb la (is-back a b ab))
 
-letter_below : (n : ℕ) (k : Kind) (x : ℕ) → IsTurn n k → x < 2 * n → letter_map k x < 2 * n
+pub letter_below : (n : ℕ) (k : Kind) (x : ℕ) → IsTurn n k → x < 2 * n → letter_map k x < 2 * n
 letter_below n (swap k) x t h = swap_below n k x t.1 h
 letter_below n (invert k) x t h = invert_below n k x h
 letter_below n (cut a s) x t h = h
