@@ -14,6 +14,8 @@ mod levels;
 #[cfg(test)]
 mod moves;
 #[cfg(test)]
+mod peaks;
+#[cfg(test)]
 mod streams;
 #[cfg(test)]
 mod support;
