@@ -24,7 +24,7 @@ use Rattle.wh_graph.specs.Laws.{JoinsTwo}
 use Rattle.wh_graph.proofs.EdgeCounts.{one, count-cons, edges_join, edges_length}
 use Rattle.wh_reduce.specs.FlowLists.{AreFlows}
 use Rattle.wh_reduce.proofs.Traced.{step_shortens}
-use Rattle.wh_level.proofs.Walks.{reached_rank, reached_words, reached_tuple}
+use Rattle.wh_moves.proofs.Walks.{reached_rank, reached_words, reached_tuple}
 use Rattle.wh_lines.proofs.Equations.{both_true}
 use Rattle.wh_fields.specs.MoveFields.{IsMoveOf}
 use Rattle.wh_fields.specs.TupleFields.{IsTupleOf}

@@ -10,7 +10,7 @@ use Rattle.wh_words.specs.MoveLists.{inverse_list}
 use Rattle.wh_words.specs.CapacityTraces.{IsCapacityTrace}
 use Rattle.wh_words.specs.Levels.{InLevel, IsLevel}
 use Rattle.wh_words.specs.Levels.Reaches.{here}
-use Rattle.wh_level.proofs.Walks.{reached_length}
+use Rattle.wh_moves.proofs.Walks.{reached_length}
 use Rattle.wh_data.specs.declared.answer.Side.{Side}
 use Rattle.wh_data.specs.declared.answer.Verdict.{Verdict}
 use Rattle.wh_data.specs.declared.answer.Verdict.TheVariants.{Yes}

@@ -4,7 +4,7 @@ use Rattle.wh_words.specs.Tuples.{TupleData, IsTuple, tuple_length}
 use Rattle.wh_words.specs.Moves.{Move}
 use Rattle.wh_words.specs.Action.{act_all}
 use Rattle.wh_words.specs.Levels.{InLevel}
-use Rattle.wh_level.proofs.Walks.{reached_length}
+use Rattle.wh_moves.proofs.Walks.{reached_length}
 use Rattle.wh_peak.specs.Equivalence.{AreMovesOfRank, AreEquivalent}
 use Rattle.wh_peak.specs.Stabilisers.{LeadsToFlat}
 use Rattle.wh_peak.proofs.ShortestTuples.{equivalence_symmetric, equivalence_transitive, flat_shortest, flat_tuple, flat_ends_tell}

@@ -7,7 +7,7 @@ use Rattle.wh_words.specs.Tuples.{TupleData, tuple_cmp}
 use Rattle.wh_words.specs.Action.{act}
 use Rattle.wh_words.specs.Levels.{InLevel, IsLevel}
 use Rattle.wh_words.specs.Levels.Reaches.{here}
-use Rattle.wh_level.proofs.Walks.{in_level_pushed, reached_length}
+use Rattle.wh_moves.proofs.Walks.{in_level_pushed, reached_length}
 use Rattle.wh_cert.specs.Demands.{has_root, rises, has_height, is_absent, is_closed, tuple_at, Rises, at_asked, level_asked, asked_below}
 use Rattle.wh_cert.specs.Checks.{AreMet}
 use Rattle.wh_cert.proofs.Judging.{one_met, both_met}

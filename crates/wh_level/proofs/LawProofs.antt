@@ -17,15 +17,11 @@ use Rattle.wh_words.specs.Tuples.{TupleData, IsTuple, tuple_cmp}
 use Rattle.wh_words.proofs.Elements.{contains_none, contains_first, contains_later, contains_cases}
 use Rattle.wh_words.proofs.SameTuples.{tuple_cmp_total, tied}
 use Rattle.wh_words.specs.Moves.{Move, move_cmp}
-use Rattle.wh_words.specs.Action.{act, act_all}
-use Rattle.wh_words.specs.Levels.{Reaches, InLevel}
-use Rattle.wh_words.specs.Levels.Reaches.{here, step}
-use Rattle.wh_words.proofs.ImageLetters.{act_tuple}
-use Rattle.wh_moves.proofs.IdentityCuts.{identity_acts, identity_or_not}
-use Rattle.wh_level.specs.Laws.{KeepsLength, LevelIsWhatIsReached, LevelIsUnique, LimitIsExact, FirstWalkIsUnique}
-use Rattle.wh_level.specs.Laws.KeepsLength.{done as kept_done, step as kept_step}
-use Rattle.wh_moves.specs.MoveOrders.{move_cmp_total}
-use Rattle.wh_level.proofs.Shortlex.{same_moves}
+use Rattle.wh_words.specs.Action.{act_all}
+use Rattle.wh_words.specs.Levels.{InLevel, KeepsLength}
+use Rattle.wh_moves.specs.MoveOrders.{move_cmp_total, same_moves}
+use Rattle.wh_moves.proofs.Walks.{kept_from_reaches, in_level_from_kept}
+use Rattle.wh_level.specs.Laws.{LevelIsWhatIsReached, LevelIsUnique, LimitIsExact, FirstWalkIsUnique}
 
 -- ---- sorted lists with the same elements
 less_twice : {K : Type 0} {R : K → K → Ordering} (o : IsTotalOrder R) (x y : K) → R x y ≡ Less → R y x ≡ Less → ⊥
@@ -85,22 +81,7 @@ pub limit_exact : LimitIsExact
 limit_exact root ts limit l m few =
     omega (arith, m.more, no_more ts m.tuples m.distinct (λ t c. (l.exact t).1 (All-contains (InLevel root) m.tuples t m.within c)), few)
 
--- ---- lists of moves that keep the length
-pub kept_from_reaches : {t u : TupleData} {ms : List Move} → Reaches t ms u → KeepsLength t ms × (act_all t ms ≡ u)
-kept_from_reaches here = (kept_done, refl)
-kept_from_reaches (step l r) =
-    let rest = kept_from_reaches r in
-    (kept_step l.valid l.rank l.kept rest.0, rest.1)
-
-pub in_level_from_kept : {t : TupleData} {ms : List Move} → IsTuple t → KeepsLength t ms → InLevel t (act_all t ms)
-in_level_from_kept is kept_done = ([], here)
-in_level_from_kept {t} is (kept_step {m = m} {ms = ms} valid rank kept rest) =
-    let more : InLevel (act t m) (act_all (act t m) ms) = in_level_from_kept (act_tuple t m is valid (sym rank) (omega (arith, kept, is.short))) rest in
-    elim (identity_or_not m.kind) [
-      | inl h ↦ (more.0, subst (λ (s : TupleData). Reaches s more.0 (act_all (act t m) ms)) (identity_acts t m is h) more.1)
-      | inr n ↦ (m ∷ more.0, step (record { valid = valid; rank = rank; kept = kept; moves = n }) more.1)
-    ]
-
+-- ---- what a level is
 pub level_reached : LevelIsWhatIsReached
 level_reached root t is = (
   λ r.

@@ -5,7 +5,7 @@ use Rattle.wh_words.specs.Moves.{Move}
 use Rattle.wh_words.specs.Levels.{IsLevelMove, InLevel}
 use Rattle.wh_expand.specs.Rows.{AreLevelMoves}
 use Rattle.wh_level.specs.PlacedTuples.{HasRoomsFor, KeepsRooms}
-use Rattle.wh_level.proofs.Walks.{reached_length, reached_words}
+use Rattle.wh_moves.proofs.Walks.{reached_length, reached_words}
 
 pub rooms_itself : (a : Tuple) → KeepsRooms a a
 rooms_itself a = record { letters = refl; words = refl }

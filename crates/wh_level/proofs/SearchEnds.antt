@@ -21,7 +21,8 @@ use Rattle.wh_words.proofs.SameTuples.{tuple_cmp_total}
 use Rattle.wh_level.proofs.LawProofs.{less_itself}
 use Rattle.wh_level.proofs.Shortlex.{no_later_itself, earlier_when_shorter}
 use Rattle.wh_level.proofs.Stops.{IsUnderway, below_cases}
-use Rattle.wh_level.proofs.Walks.{IsArrived, IsWhole, arrives, first_from, reached_itself}
+use Rattle.wh_moves.proofs.Walks.{reached_itself}
+use Rattle.wh_level.proofs.Walks.{IsArrived, IsWhole, arrives, first_from}
 
 -- ---- the start
 module _ (root : TupleData) (tuples : List TupleData) (v : ℕ) (at_root : slice_get tuples v ≡ Some root) where

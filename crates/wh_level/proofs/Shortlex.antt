@@ -5,21 +5,18 @@ use Rattle.std.proofs.lemmas.Cmp.{upto, tied_itself, ranked}
 use Rattle.std.proofs.lemmas.List.{length_push}
 use Rattle.std.specs.Cmp.{IsTotalOrder, on_total, then_total, nat_cmp_total, nat_cmp_is}
 use Rattle.std.specs.Cmp.Lexicographic.{slice_cmp, lists_total}
-use Rattle.std.specs.FinMap.{nat_cmp-IsAntisymmetric, slice_cmp-IsAntisymmetric}
+use Rattle.std.specs.FinMap.{nat_cmp-IsAntisymmetric}
 use Rattle.std.specs.Ordering.{is_gt, nat_cmp, ordering_then, MatchOrdering}
 use Rattle.std.specs.declared.cmp.Ordering.{Ordering}
 use Rattle.std.specs.declared.cmp.Ordering.TheVariants.{Less, Equal, Greater}
 use Rattle.wh_words.specs.Moves.{Move, move_cmp}
-use Rattle.wh_moves.specs.MoveOrders.{move_cmp_total, same_move, then_nothing}
+use Rattle.wh_moves.specs.MoveOrders.{move_cmp_total, then_nothing}
 use Rattle.wh_moves.proofs.PackedOrder.{then_assoc}
 use Rattle.wh_level.specs.Searches.{walk_cmp, NoLater, Earlier}
 
 -- ---- the order of walks is total
 pub walk_cmp_total : IsTotalOrder walk_cmp
 walk_cmp_total = then_total (on_total (λ (p : List Move). length p) nat_cmp_total) (lists_total move_cmp_total)
-
-pub same_moves : (p q : List Move) → slice_cmp move_cmp p q ≡ Equal → p ≡ q
-same_moves = slice_cmp-IsAntisymmetric same_move
 
 -- ---- one move more
 pushed_moves : (p q : List Move) (m n : Move) → length p ≡ length q → slice_cmp move_cmp (p ++ m ∷ []) (q ++ n ∷ []) ≡ ordering_then (slice_cmp move_cmp p q) (move_cmp m n)

@@ -16,7 +16,7 @@ use Rattle.wh_level.specs.Searches.{SearchData, follow, Stop, Earlier, HasParent
 use Rattle.wh_level.specs.Searches.HasParent.{none, some}
 use Rattle.wh_level.proofs.Cells.{slice_get_set_same, slice_get_set_other, count_unseen_set}
 use Rattle.wh_level.proofs.Shortlex.{no_later_itself, no_later_from, no_later_when_earlier, earlier_from, earlier_pushed, earlier_by_move, earlier_when_shorter}
-use Rattle.wh_level.proofs.Walks.{reaches_pushed}
+use Rattle.wh_moves.proofs.Walks.{reaches_pushed}
 
 -- Some of the moves of a stop were followed, the first so many of them.
 pub record IsUnderway (root : TupleData) (tuples : List TupleData) (s : SearchData) (at place : ℕ) (t : TupleData) (moves : List Move) (j : ℕ) : Type 0 where

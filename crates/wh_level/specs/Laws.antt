@@ -1,20 +1,8 @@
 -- What a level is, as statements that contracts name, after Lyndon and Schupp, I.4.
-use Rattle.std.specs.Prelude.{◌≡◌, ℕ, ◌≤◌, List, [], ◌∷◌, length, ◌↔◌}
-use Rattle.wh_words.specs.Tuples.{TupleData, IsTuple, tuple_length}
-use Rattle.wh_words.specs.Moves.{Move, IsMove}
-use Rattle.wh_words.specs.Action.{act, act_all}
-use Rattle.wh_words.specs.Levels.{InLevel, IsLevel, IsFirstWalk, HasMoreThan}
-
--- Each move of the list is one of the rank and keeps the length of the tuple that it acts on. Identity cuts may be among them.
-pub data KeepsLength : TupleData → List Move → Type 0 where
-  done : {t : TupleData} → KeepsLength t []
-  step : {t : TupleData} {m : Move} {ms : List Move} → IsMove m → m.rank ≡ t.rank → tuple_length (act t m) ≡ tuple_length t → KeepsLength (act t m) ms → KeepsLength t (m ∷ ms)
-
--- Some list of moves that keep the length leads from one tuple to the other.
-pub record IsReached (root t : TupleData) : Type 0 where
-  pub moves : List Move
-  pub keeps : KeepsLength root moves
-  pub leads : act_all root moves ≡ t
+use Rattle.std.specs.Prelude.{◌≡◌, ℕ, ◌≤◌, List, length, ◌↔◌}
+use Rattle.wh_words.specs.Tuples.{TupleData, IsTuple}
+use Rattle.wh_words.specs.Moves.{Move}
+use Rattle.wh_words.specs.Levels.{InLevel, IsReached, IsLevel, IsFirstWalk, HasMoreThan}
 
 -- The level of a tuple has every tuple that some list of moves that keep the length leads to from it, and nothing else.
 abbrev pub LevelIsWhatIsReached : Type 0

@@ -6,3 +6,4 @@ pub mod IdentityCuts
 pub mod InverseMoves
 pub mod Masks
 pub mod Substitutions
+pub mod Walks

@@ -4,7 +4,7 @@ use Rattle.std.proofs.Common.{ap, ◌∙◌, subst}
 use Rattle.std.proofs.lemmas.Bool.{true≢false}
 use Rattle.std.specs.Cmp.{IsTotalOrder, on_total, then_total, nat_cmp_total}
 use Rattle.std.specs.Cmp.Lexicographic.{slice_cmp, nat_list_cmp_total}
-use Rattle.std.specs.FinMap.{nat_cmp-IsAntisymmetric}
+use Rattle.std.specs.FinMap.{nat_cmp-IsAntisymmetric, slice_cmp-IsAntisymmetric}
 use Rattle.std.specs.Ordering.{is_lt, is_gt, eq_by_cmp, nat_cmp, ordering_then}
 use Rattle.std.specs.declared.cmp.Ordering.{Ordering}
 use Rattle.std.specs.declared.cmp.Ordering.TheVariants.{Less, Equal, Greater}
@@ -61,6 +61,10 @@ same_move m n e =
     let both : (nat_cmp m.rank n.rank ≡ Equal) × (kind_cmp m.kind n.kind ≡ Equal) = then_equal (nat_cmp m.rank n.rank) (kind_cmp m.kind n.kind) e in
     ap (λ (r : ℕ). record { rank = r; kind = m.kind }) (nat_cmp-IsAntisymmetric m.rank n.rank both.0)
     ∙ ap (λ (k : Kind). record { rank = n.rank; kind = k }) (same_kind m.kind n.kind both.1)
+
+-- Lists of moves that the order ties are one list.
+pub same_moves : (ms ns : List Move) → slice_cmp move_cmp ms ns ≡ Equal → ms ≡ ns
+same_moves = slice_cmp-IsAntisymmetric same_move
 
 pub move_hash_respects_eq : (m n : Move) → IsTrue (eq_by_cmp move_cmp m n) → hash_writes m ≡ hash_writes n
 move_hash_respects_eq m n h = ap hash_writes (same_move m n (equal_then_tied (move_cmp m n) h))

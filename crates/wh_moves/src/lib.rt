@@ -12,5 +12,5 @@ mod moves;
 pub use action::{ActError, act, act_into, acted_length};
 pub use image_words::Images;
 pub use letter_images::{image_word, images};
-pub use list_action::act_all;
+pub use list_action::{act_all, roomy_copy};
 pub use moves::{Kind, Move};

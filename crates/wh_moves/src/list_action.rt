@@ -12,9 +12,10 @@ use std::alloc::Global;
 use std::mem;
 use wh_words::{MOST_LETTERS, OutOfMemory, Tuple};
 
-/// An equal tuple that has room for as many letters as a tuple may have.
+/// An equal tuple in memory of its own, with room for as many letters as a tuple may have, so that every tuple fits into it
+/// that moves make of it.
 #[tactic(auto, using(crate::proofs::ActedLists::word_of_rank, crate::proofs::ActedLists::word_fits, crate::proofs::ActedLists::word_more))]
-fn roomy_copy(alloc: Global, tuple: &Tuple) -> Result<Tuple, OutOfMemory>
+pub fn roomy_copy(alloc: Global, tuple: &Tuple) -> Result<Tuple, OutOfMemory>
     ensures { IfOk result (λ t. t ≡ record { plain = tuple.now.plain; room = most_letters; word_room = length tuple.now.plain.words }) }
 {
     let mut made = Tuple::with_room(alloc, tuple.rank(), tuple.count(), MOST_LETTERS as usize)?;

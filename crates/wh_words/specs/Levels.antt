@@ -6,7 +6,7 @@ use Rattle.std.specs.Ordering.{is_gt, eq_by_cmp}
 use Rattle.std.specs.Cmp.Lexicographic.{slice_cmp}
 use Rattle.wh_words.specs.Tuples.{TupleData, tuple_length, tuple_cmp}
 use Rattle.wh_words.specs.Moves.{Move, IsMove, IsIdentityCut, move_cmp}
-use Rattle.wh_words.specs.Action.{act}
+use Rattle.wh_words.specs.Action.{act, act_all}
 
 -- A level move of a tuple: a move of its rank that keeps its length and is no identity cut.
 pub record IsLevelMove (t : TupleData) (m : Move) : Type 0 where
@@ -23,6 +23,17 @@ pub data Reaches : TupleData → List Move → TupleData → Type 0 where
 -- The level of a root: all tuples that some list of level moves leads to.
 abbrev pub InLevel : TupleData → TupleData → Type 0
 InLevel root t = (ms : List Move) × Reaches root ms t
+
+-- Each move of the list is one of the rank and keeps the length of the tuple that it acts on. Identity cuts may be among them.
+pub data KeepsLength : TupleData → List Move → Type 0 where
+  done : {t : TupleData} → KeepsLength t []
+  step : {t : TupleData} {m : Move} {ms : List Move} → IsMove m → m.rank ≡ t.rank → tuple_length (act t m) ≡ tuple_length t → KeepsLength (act t m) ms → KeepsLength t (m ∷ ms)
+
+-- Some list of moves that keep the length leads from one tuple to the other.
+pub record IsReached (root t : TupleData) : Type 0 where
+  pub moves : List Move
+  pub keeps : KeepsLength root moves
+  pub leads : act_all root moves ≡ t
 
 -- The list is the level of the root in the order of tuples, each of its tuples once.
 pub record IsLevel (root : TupleData) (ts : List TupleData) : Type 0 where

@@ -12,7 +12,7 @@ use Rattle.wh_level.specs.GrowingLevels.{GrowingData, HasGoneOver, GoesOn}
 use Rattle.wh_workers.specs.Explorations.{IsExpandable}
 use Rattle.wh_level.proofs.Growth.{gone_within}
 use Rattle.wh_level.proofs.Rooms.{rooms_in_level}
-use Rattle.wh_level.proofs.Walks.{reached_tuple, reached_rank}
+use Rattle.wh_moves.proofs.Walks.{reached_tuple, reached_rank}
 
 -- More tuples of the level than the limit were found.
 pub more_than : (root : TupleData) (limit : ℕ) (g : GrowingData) (at : ℕ) → IsDistinct (eq_by_cmp tuple_cmp) g.tuples → limit < length g.tuples → GoesOn root limit g at → HasMoreThan root limit

@@ -9,7 +9,7 @@ use Rattle.wh_level.specs.Trees.{AreParents}
 use Rattle.wh_level.proofs.FirstParents.{past_from_none, started_at, next_within, next_tuple, cells_of, row_at, row_within, row_tuple_is, row_good, missed_root, missed_image, went_over}
 use Rattle.wh_level.proofs.Rooms.{rooms_itself, rooms_then, rooms_kept, rooms_in_level}
 use Rattle.wh_level.proofs.SearchEnds.{AreAlone, same_places, level_exact, parents_whole}
-use Rattle.wh_level.proofs.Walks.{reached_tuple}
+use Rattle.wh_moves.proofs.Walks.{reached_tuple}
 use Rattle.wh_level.proofs.search.first_parents.Goals as goal
 
 pub returns-in_default-clause-parents : goal.returns-in_default-clause-parents
