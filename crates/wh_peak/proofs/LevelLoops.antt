@@ -13,16 +13,13 @@ use Rattle.wh_words.specs.Moves.Kind.{swap, invert, cut}
 use Rattle.wh_words.specs.MoveLists.{inverse_list}
 use Rattle.wh_words.specs.Images.{image}
 use Rattle.wh_words.specs.Action.{act, act_all}
-use Rattle.wh_words.specs.Levels.{IsLevelMove, Reaches, InLevel}
+use Rattle.wh_words.specs.Levels.{IsLevelMove, Reaches, InLevel, KeepsLength}
 use Rattle.wh_words.specs.Levels.Reaches.{here, step}
 use Rattle.wh_words.proofs.ImageLetters.{act_tuple}
 use Rattle.wh_moves.proofs.IdentityCuts.{identity_image, identity_acts, identity_or_not}
-use Rattle.wh_level.specs.Laws.{KeepsLength}
-use Rattle.wh_level.specs.Laws.KeepsLength.{done as kept_done, step as kept_step}
-use Rattle.wh_moves.specs.MoveOrders.{move_cmp_total}
-use Rattle.wh_level.proofs.Shortlex.{same_moves}
-use Rattle.wh_level.proofs.Walks as walks
-use Rattle.wh_level.proofs.Walks.{in_level_pushed}
+use Rattle.wh_words.specs.Levels.KeepsLength.{done as kept_done, step as kept_step}
+use Rattle.wh_moves.specs.MoveOrders.{move_cmp_total, same_moves}
+use Rattle.wh_moves.proofs.Walks.{in_level_pushed, reached_rank}
 use Rattle.wh_peak.specs.Equivalence.{IsMoveOfRank, AreMovesOfRank}
 use Rattle.wh_peak.specs.Stabilisers.{ArePaths, IsLoop, IsProduct}
 use Rattle.wh_peak.specs.Stabilisers.IsProduct.{none, more}
@@ -37,7 +34,7 @@ identity_goes n (swap j) h x = absurd h
 identity_goes n (invert j) h x = absurd h
 identity_goes n (cut a set) h x = ap (λ s. image (cut a s) x) h ∙ identity_image a x
 
-identity-same : (n : ℕ) (m : Move) → IsIdentityCut m.kind → AgreeOn n (m ∷ []) []
+pub identity-same : (n : ℕ) (m : Move) → IsIdentityCut m.kind → AgreeOn n (m ∷ []) []
 identity-same n m h x l r = ap (λ w. run w r) (append-nil (image m.kind x) ∙ identity_goes n m.kind h x)
 
 pub kept-of_rank : {t : TupleData} {ms : List Move} → KeepsLength t ms → AreMovesOfRank t.rank ms
@@ -90,7 +87,7 @@ pub record IsLooped (root : TupleData) (path : TupleData → List Move) (n : ℕ
 
 module _ (root : TupleData) (path : TupleData → List Move) (paths : ArePaths root path) where
   pub level-rank : (t : TupleData) → InLevel root t → t.rank ≡ root.rank
-  level-rank t l = walks.reached_rank l.1
+  level-rank t l = reached_rank l.1
 
   pub path-of_rank : (t : TupleData) → InLevel root t → AreMovesOfRank root.rank (path t)
   path-of_rank t l = walk-of_rank (paths.leads t l)

@@ -9,13 +9,11 @@ use Rattle.wh_words.specs.MoveLists.{inverse_list}
 use Rattle.wh_words.specs.Action.{act, act_all}
 use Rattle.wh_words.specs.Traces.{IsFlat, IsTrace}
 use Rattle.wh_words.specs.Traces.IsTrace.{done, step}
-use Rattle.wh_words.specs.Levels.{InLevel, Reaches}
+use Rattle.wh_words.specs.Levels.{InLevel, Reaches, KeepsLength}
 use Rattle.wh_words.specs.Levels.Reaches.{here, step as further}
 use Rattle.wh_graph.proofs.Agreement.{flat_by_capacities, traces_agree}
-use Rattle.wh_level.specs.Laws.{KeepsLength}
-use Rattle.wh_level.specs.Laws.KeepsLength.{done as kept_done, step as kept_step}
-use Rattle.wh_level.proofs.LawProofs.{in_level_from_kept}
-use Rattle.wh_level.proofs.Walks.{reached_length}
+use Rattle.wh_words.specs.Levels.KeepsLength.{done as kept_done, step as kept_step}
+use Rattle.wh_moves.proofs.Walks.{reached_length, in_level_from_kept}
 use Rattle.wh_peak.specs.Equivalence.{IsMoveOfRank, AreMovesOfRank, AreEquivalent, IsShortest}
 use Rattle.wh_peak.specs.Laws.{EquivalenceIsReflexive, EquivalenceIsSymmetric, EquivalenceIsTransitive, FlatIsShortest, TightIsShortest, ShortestShareALevel, FlatEndsTell, TraceEndsTell, OtherLengthsTellApart, OtherLevelsTellApart}
 use Rattle.wh_peak.proofs.Actions.{AreCyclic}

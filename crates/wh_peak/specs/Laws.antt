@@ -1,5 +1,5 @@
 -- What peak reduction shows, as statements that contracts name, after Whitehead 1936, and Lyndon and Schupp, I.4.
-use Rattle.std.specs.Prelude.{◌≡◌, ◌≢◌, ◌+◌, ◌<◌, ◌≤◌, List, ◌↔◌, ℕ, [], ◌++◌}
+use Rattle.std.specs.Prelude.{◌≡◌, ◌≢◌, ◌+◌, ◌<◌, ◌≤◌, List, ◌↔◌, ℕ, [], ◌++◌, length, take}
 use Rattle.wh_words.specs.Tuples.{TupleData, IsTuple, tuple_length}
 use Rattle.wh_words.specs.Moves.{Move}
 use Rattle.wh_words.specs.MoveLists.{inverse_list}
@@ -12,7 +12,7 @@ use Rattle.wh_words.specs.Composites.{composite}
 use Rattle.wh_peak.specs.Automorphisms.{AreAlike, Fixes}
 use Rattle.wh_peak.specs.Relations.{IsTrivial}
 use Rattle.wh_peak.specs.Stabilisers.{LeadsToFlat, ArePaths, IsGenerator, IsProduct, IsWordOf}
-use Rattle.wh_peak.specs.Straightness.{IsStraightened, IsLowered}
+use Rattle.wh_peak.specs.Straightness.{IsStraight, IsStraightened, IsLowered}
 
 -- ---- equivalence
 -- A tuple is equivalent to itself.
@@ -66,6 +66,15 @@ PeaksCanBeLowered = (top : TupleData) (left right : Move) → IsTuple top → Is
 -- Each list of moves has a straight one that is alike to it and has the same end.
 abbrev pub ListsCanBeStraightened : Type 0
 ListsCanBeStraightened = (t : TupleData) (ms : List Move) → IsTuple t → t.rank ≤ 26 → AreMovesOfRank t.rank ms → (ns : List Move) × IsStraightened t ms ns
+
+-- ---- straight ways
+-- On a straight way no tuple is longer than both ends.
+abbrev pub StraightWaysStayLow : Type 0
+StraightWaysStayLow = (t : TupleData) (ms : List Move) → IsStraight t ms → (bound : ℕ) → tuple_length t ≤ bound → tuple_length (act_all t ms) ≤ bound → (k : ℕ) → k ≤ length ms → tuple_length (act_all t (take k ms)) ≤ bound
+
+-- Between flat tuples all tuples on a straight way have one length.
+abbrev pub StraightWaysBetweenFlatStay : Type 0
+StraightWaysBetweenFlatStay = (t : TupleData) (ms : List Move) → IsTuple t → t.rank ≤ 26 → AreMovesOfRank t.rank ms → IsFlat t → IsFlat (act_all t ms) → IsStraight t ms → (k : ℕ) → k ≤ length ms → tuple_length (act_all t (take k ms)) ≡ tuple_length t
 
 -- ---- shortest tuples
 -- A tuple that no cut shortens is shortest, and the other way round.

@@ -5,7 +5,7 @@ use crate::support::{cut, has_words, tuple};
 use std::alloc::Global;
 use std::test::Fail;
 use wh_moves::{Move, act, acted_length};
-use wh_peak::lower;
+use wh_straighten::lower;
 use wh_words::Tuple;
 
 /// A way round the top, where both moves shorten it, and else no move.

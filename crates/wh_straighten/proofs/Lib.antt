@@ -1,0 +1,5 @@
+mod LoweredMoves
+mod LoweredRows
+mod LoweredCuts
+mod LoweredTurns
+mod StraightWays
