@@ -68,6 +68,7 @@ fn like_of(alloc: Global, rank: Rank, count: usize, kept: &Kept) -> Result<Tuple
 {
     let tuple = tuple_of(alloc, rank, kept)?;
     if tuple.count() != count {
+        drop(tuple);
         return Err(bad_line(kept));
     }
     Ok(tuple)
