@@ -119,13 +119,6 @@ exact_as read S T there again h = record {
   back = λ p q x rows told passes. h.back p q x rows (again rows x told) passes;
 }
 
--- The same is read in another way.
-pub exact_by : {A : Type 0} (read other : Reading → Result (A × Reading) ReadError) (S : List Row → A → Type 0) → ((p : Reading) → other p ≡ read p) → Exact read S → Exact other S
-exact_by read other S e h = record {
-  is = λ p q x some f. h.is p q x some (sym (e p) ∙ f);
-  back = λ p q x rows told passes. e p ∙ h.back p q x rows told passes;
-}
-
 -- ---- so many readings of a line
 -- One row.
 pub record OneRow {A : Type 0} (T : Row → A → Type 0) (rows : List Row) (x : A) : Type 0 where

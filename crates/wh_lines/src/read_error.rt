@@ -3,11 +3,11 @@ ghost use Rattle.std.specs.Prelude.{◌≡◌};
 ghost use Rattle.wh_lines.specs.declared.read_error.ReadError.TheVariants as errors;
 
 use std::alloc::{AllocError, AllocFailed};
-use std::fmt::{self, Display, Formatter, Write};
+use std::fmt::{self, Debug, Display, Formatter, Write};
 
 /// The first rule that a text breaks, with its place, or want of memory. Lines, and columns in a line, are counted from
 /// 1. Each variant but the last is a refusal.
-#[derive(Clone, Copy, PartialEq, Eq, Debug)]
+#[derive(Clone, Copy, PartialEq, Eq)]
 pub enum ReadError {
     /// The input has more bytes than `limit`.
     InputTooLong { limit: u64 },
@@ -54,6 +54,54 @@ impl<T: Drop> From<AllocFailed<T>> for ReadError {
     }
 }
 
+/// What is told of an error: texts, and the numbers beside them.
+#[derive(Clone, Copy)]
+enum Message {
+    AtLine(u64, &'static str),
+    AtByte(u64, u64, &'static str),
+    TooMany(u64, u64, &'static str),
+    Number(&'static str, u64, &'static str),
+    Unequal(&'static str, u64, &'static str, u64),
+    Text(&'static str),
+}
+
+impl ReadError {
+    /// What is told of an error.
+    fn message(self) -> Message {
+        match self {
+            ReadError::InputTooLong { limit } => {
+                Message::Number("the input has more than ", limit, " bytes")
+            }
+            ReadError::BadByte { line, column } => {
+                Message::AtByte(line, column, "a byte that may not stand in a text")
+            }
+            ReadError::NoRank { line } => Message::AtLine(line, "there is no rank"),
+            ReadError::RankRange { line } => {
+                Message::AtLine(line, "the rank is not a number from 1 to 26")
+            }
+            ReadError::LevelRank { rank } => {
+                Message::Number("the rank ", rank, " is too large for the command")
+            }
+            ReadError::BadLine { line } => Message::AtLine(line, "a line that may not stand here"),
+            ReadError::TooManyWords { line, count } => Message::TooMany(line, count, "words"),
+            ReadError::BadLetter { line, column } => {
+                Message::AtByte(line, column, "a byte that is no letter of the rank")
+            }
+            ReadError::LongTuple { line, length } => Message::TooMany(line, length, "letters"),
+            ReadError::TupleCount { expected, found } => {
+                Message::Unequal("tuples expected:", expected, "found:", found)
+            }
+            ReadError::SizeMismatch { first, second } => {
+                Message::Unequal("words of the first tuple:", first, "of the second:", second)
+            }
+            ReadError::NoCertificate { line } => {
+                Message::AtLine(line, "an answer that is no certificate")
+            }
+            ReadError::OutOfMemory => Message::Text("out of memory"),
+        }
+    }
+}
+
 /// Writes what is wrong with a line.
 fn at_line<W: Write>(f: &mut Formatter<W>, line: u64, what: &str) -> fmt::Result {
     write!(f, "line {line}: {what}")
@@ -69,49 +117,33 @@ fn too_many<W: Write>(f: &mut Formatter<W>, line: u64, count: u64, what: &str) -
     write!(f, "line {line}: {count} {what} are too many")
 }
 
+/// Writes a number between two texts.
+fn number<W: Write>(f: &mut Formatter<W>, before: &str, n: u64, after: &str) -> fmt::Result {
+    write!(f, "{before}{n}{after}")
+}
+
 /// Writes two numbers that don't fit, each behind a text.
 fn unequal<W: Write>(f: &mut Formatter<W>, what: &str, n: u64, other: &str, m: u64) -> fmt::Result {
     write!(f, "{what} {n} {other} {m}")
 }
 
-// By hand: what a derived impl writes for all variants at once takes the checker long.
+// Both by hand: what a derived impl writes for all variants at once takes the checker long.
 impl Display for ReadError {
     fn fmt<W: Write>(&self, f: &mut Formatter<W>) -> fmt::Result {
-        match *self {
-            ReadError::InputTooLong { limit } => write!(f, "the input has more than {limit} bytes"),
-            ReadError::BadByte { line, column } => {
-                at_byte(f, line, column, "a byte that may not stand in a text")
-            }
-            ReadError::NoRank { line } => at_line(f, line, "there is no rank"),
-            ReadError::RankRange { line } => {
-                at_line(f, line, "the rank is not a number from 1 to 26")
-            }
-            ReadError::LevelRank { rank } => {
-                write!(f, "the rank {rank} is too large for the command")
-            }
-            ReadError::BadLine { line } => at_line(f, line, "a line that may not stand here"),
-            ReadError::TooManyWords { line, count } => too_many(f, line, count, "words"),
-            ReadError::BadLetter { line, column } => {
-                at_byte(f, line, column, "a byte that is no letter of the rank")
-            }
-            ReadError::LongTuple { line, length } => too_many(f, line, length, "letters"),
-            ReadError::TupleCount { expected, found } => {
-                unequal(f, "tuples expected:", expected, "found:", found)
-            }
-            ReadError::SizeMismatch { first, second } => {
-                unequal(
-                    f,
-                    "words of the first tuple:",
-                    first,
-                    "of the second:",
-                    second,
-                )
-            }
-            ReadError::NoCertificate { line } => {
-                at_line(f, line, "an answer that is no certificate")
-            }
-            ReadError::OutOfMemory => f.write_str("out of memory"),
+        match self.message() {
+            Message::AtLine(line, what) => at_line(f, line, what),
+            Message::AtByte(line, column, what) => at_byte(f, line, column, what),
+            Message::TooMany(line, count, what) => too_many(f, line, count, what),
+            Message::Number(before, n, after) => number(f, before, n, after),
+            Message::Unequal(what, n, other, m) => unequal(f, what, n, other, m),
+            Message::Text(text) => f.write_str(text),
         }
+    }
+}
+
+impl Debug for ReadError {
+    fn fmt<W: Write>(&self, f: &mut Formatter<W>) -> fmt::Result {
+        Display::fmt(self, f)
     }
 }
 

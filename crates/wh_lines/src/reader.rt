@@ -1,7 +1,9 @@
 //! Reading a text, one line that isn't skipped after another.
 ghost use Rattle.std.specs.Prelude.{◌≡◌, ◌<◌, ◌+◌, ◌^◌, cond, length, Ok, Err};
 ghost use Rattle.wh_lines.specs.declared.read_error.ReadError.TheVariants.{BadLine};
-ghost use Rattle.wh_lines.specs.Lines.{are};
+ghost use Rattle.wh_lines.specs.Lines.{are, lines};
+ghost use Rattle.wh_lines.specs.KeptLines.{rest as left};
+ghost use Rattle.wh_lines.specs.KeptLines.Rest.{line as a_line};
 ghost use Rattle.wh_lines.specs.Readings.{Gives};
 ghost use Rattle.wh_lines.specs.LineReadings as spec;
 ghost use Rattle.wh_lines.specs.LineReadings.{Reads};
@@ -70,6 +72,17 @@ impl<'a> Reader<'a> {
         }
     }
 
+    /// Takes a line, behind which `rest` is left, which begins with line number `line`.
+    fn take(&mut self, kept: Kept<'a>, line: u32, rest: &'a [u8]) -> Result<Next<'a>, ReadError>
+        requires { line + length rest.now < 2 ^ 32 }
+        ensures { Reads (λ n. n) result self.new (spec.next_of self.old.taken (a_line kept.entry (left line (lines rest.now)))) }
+    {
+        self.taken.push(kept.number())?;
+        self.line = line;
+        self.rest = rest;
+        Ok(Next::Line(kept))
+    }
+
     /// Takes the next line that isn't skipped, where there is one. BadByte comes where a byte stands before its end that
     /// may not. OutOfMemory comes where there is no memory for its fields.
     #[tactic(auto, using(crate::proofs::NextLines::next_fails, crate::proofs::NextLines::next_found, crate::proofs::NextLines::next_ended))]
@@ -77,13 +90,10 @@ impl<'a> Reader<'a> {
         ensures { Reads (λ n. n) result self.new (spec.next self.old) }
     {
         let (kept, line, rest) = first_kept(self.alloc, self.line, self.rest)?;
-        let Some(kept) = kept else {
-            return Ok(Next::End(line));
-        };
-        self.taken.push(kept.number())?;
-        self.line = line;
-        self.rest = rest;
-        Ok(Next::Line(kept))
+        match kept {
+            Some(kept) => self.take(kept, line, rest),
+            None => Ok(Next::End(line)),
+        }
     }
 
     /// Takes the next line that isn't skipped, which has this keyword. BadLine comes where another line stands there, and

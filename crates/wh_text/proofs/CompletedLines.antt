@@ -9,20 +9,20 @@ use Rattle.wh_words.specs.Words.{IsOfRank}
 use Rattle.wh_words.specs.CyclicWords.{cyclic_word}
 use Rattle.wh_lines.specs.Readings.{◌>>=◌, items_at, or_bad_line, refused_as}
 use Rattle.wh_lines.specs.Rows.{Row, number_row}
-use Rattle.wh_lines.specs.LineReadings.{line_after, times}
+use Rattle.wh_lines.specs.LineReadings.{times}
 use Rattle.wh_lines.proofs.PrintedRows.{IsShown, IsShownRow, IsShownByte}
 use Rattle.wh_lines.proofs.LocalReadings.{bad_line_is}
 use Rattle.wh_lines.proofs.ExactReadings.{Then, Headed, Nothing, OneRow, Rows, exact_times}
-use Rattle.wh_lines.proofs.CompletedReadings.{Completes, completes_none, completes_then, completes_as, completes_by, completes_line, completes_head, completes_times}
+use Rattle.wh_lines.proofs.CompletedReadings.{Completes, completes_none, completes_then, completes_as, completes_line, completes_head, completes_times}
 use Rattle.wh_fields.specs.Words.{letter_text, word_text}
 use Rattle.wh_fields.specs.TupleFields.{tuple_at, words_row}
 use Rattle.wh_fields.specs.MoveFields.{move_at}
 use Rattle.wh_fields.specs.FlowFields.{flow_in}
 use Rattle.wh_fields.specs.Laws.{IsPairOf}
 use Rattle.wh_fields.proofs.ShownFields.{shown_from, written_shown, letter_shown, decimal_shown}
-use Rattle.wh_text.specs.Certificates.{in_answer, tuple_after, like_after, moves_after, flow_after, side_with, side_after, number_in, level_after}
+use Rattle.wh_text.specs.Certificates.{in_answer, tuple_after, like_of, like_after, moves_after, flow_after, side_with, side_after, number_in, level_after}
 use Rattle.wh_text.specs.CertificateTexts.{IsTupleRow, IsLikeRow, IsMovesRow, IsFlowRow, IsLevelText}
-use Rattle.wh_text.proofs.ExactLines.{tell_like, after_shape, IsSideRead, SideParts, side_there, SizeRow, level_there, number_is_row, exact_like, exact_moves, exact_flow}
+use Rattle.wh_text.proofs.ExactLines.{IsSideRead, SideParts, side_there, SizeRow, level_there, number_is_row, exact_like, exact_moves, exact_flow}
 use Rattle.wh_text.proofs.FirstLines.{tuple_in, like_in, moves_in}
 use Rattle.wh_flow.specs.Tables.{zero_table}
 
@@ -51,12 +51,10 @@ completes_tuple keyword n h =
     (empty_row keyword n 0 (omega arith)) (empty_shown keyword 0 h) (tuple_in n)
 
 pub completes_like : (keyword : List ℕ) (n count : ℕ) → IsShown keyword → count ≤ most_words → Completes (like_after keyword n count) (OneRow (IsLikeRow keyword n count))
-unfolding like_after tell_like
+unfolding like_after
 completes_like keyword n count h few =
-    completes_by (λ p. line_after keyword p >>= λ k. tell_like n count k.0 >>= λ t. Ok (t, k.1)) (like_after keyword n count) (OneRow (IsLikeRow keyword n count))
-    (λ p. after_shape keyword n count (line_after keyword p))
-    (completes_line keyword (tell_like n count) (IsLikeRow keyword n count) (words_row keyword (empty_words count)) (record { rank = n; words = map cyclic_word (empty_words count) })
-    (empty_row keyword n count few, length-map (empty_words count) cyclic_word ∙ length-replicate {A = List ℕ} count []) (empty_shown keyword count h) (like_in n count))
+    completes_line keyword (like_of n count) (IsLikeRow keyword n count) (words_row keyword (empty_words count)) (record { rank = n; words = map cyclic_word (empty_words count) })
+    (empty_row keyword n count few, length-map (empty_words count) cyclic_word ∙ length-replicate {A = List ℕ} count []) (empty_shown keyword count h) (like_in n count)
 
 -- ---- moves and flows
 pub completes_moves : (keyword : List ℕ) (n : ℕ) → IsShown keyword → Completes (moves_after keyword n) (OneRow (IsMovesRow keyword n))

@@ -1,25 +1,24 @@
 -- The lines of a certificate are read exactly from what they tell: for the law on certificates.
-use Rattle.std.proofs.Common.{◌≡◌, ℕ, ◌^◌, ◌<◌, ◌≤◌, ◌==◌, Bool, true, false, cond, List, [], ◌∷◌, ◌++◌, length, map, refl, sym, ap, ◌∙◌, subst, arith, append-nil, None, Some, Result, Ok, Err}
+use Rattle.std.proofs.Common.{◌≡◌, ℕ, ◌^◌, ◌<◌, ◌≤◌, ◌==◌, Bool, true, false, cond, List, [], ◌∷◌, ◌++◌, length, map, refl, sym, ap, ◌∙◌, subst, arith, append-nil, None, Some, Ok, Err}
 use Rattle.std.specs.Prelude.{◌&&◌, leb, codes, decimal}
 use Rattle.std.specs.declared.option.Option.{Option}
 use Rattle.std.proofs.lemmas.Bool.{cond-true, eqb-true}
 use Rattle.std.proofs.lemmas.Bool.Decides.{nat_tests}
 use Rattle.wh_words.specs.Tuples.{TupleData}
 use Rattle.wh_words.specs.Moves.{Move, Kind}
-use Rattle.wh_lines.specs.declared.read_error.ReadError.{ReadError}
 use Rattle.wh_lines.specs.declared.read_error.ReadError.TheVariants as errors
 use Rattle.wh_lines.specs.Lines.{Field}
 use Rattle.wh_lines.specs.Readings.{◌>>=◌, items_at, or_bad_line, refused_as}
 use Rattle.wh_lines.specs.Numbers.{number}
 use Rattle.wh_lines.specs.Rows.{Row, number_row}
 use Rattle.wh_lines.specs.KeptLines.{Kept}
-use Rattle.wh_lines.specs.LineReadings.{Reading, line_after, times}
+use Rattle.wh_lines.specs.LineReadings.{times}
 use Rattle.wh_lines.proofs.Equations.{bind_ok, ok_is, ok_same, if_ok, refused_ok}
 use Rattle.wh_lines.proofs.Scanning.{eq_true}
 use Rattle.wh_lines.proofs.FieldLaws.{AreSome}
 use Rattle.wh_lines.proofs.NumberLaws.{reads_numbers}
 use Rattle.wh_lines.proofs.RowReadings.{Tells}
-use Rattle.wh_lines.proofs.ExactReadings.{row_of, Exact, Then, Headed, Nothing, OneRow, Rows, exact_none, exact_then, exact_head, exact_line, exact_as, exact_by, exact_times}
+use Rattle.wh_lines.proofs.ExactReadings.{row_of, Exact, Then, Headed, Nothing, OneRow, Rows, exact_none, exact_then, exact_head, exact_line, exact_as, exact_times}
 use Rattle.wh_fields.specs.MoveFields.{kind_in, move_with, move_at}
 use Rattle.wh_fields.specs.TupleFields.{tuple_at, words_row}
 use Rattle.wh_fields.specs.FlowFields.{FlowData, flow_in}
@@ -27,7 +26,7 @@ use Rattle.wh_fields.specs.Laws.{IsMoveField, IsFlowLine}
 use Rattle.wh_fields.proofs.TupleLaws.{tuple_is, tuple_back}
 use Rattle.wh_fields.proofs.MoveLaws.{reads_moves}
 use Rattle.wh_fields.proofs.FlowLaws.{reads_flows}
-use Rattle.wh_text.specs.Certificates.{in_answer, tuple_after, like_after, moves_after, flow_after, SideRead, side_with, side_after, within, number_in, level_after}
+use Rattle.wh_text.specs.Certificates.{in_answer, tuple_after, like_of, like_after, moves_after, flow_after, SideRead, side_with, side_after, within, number_in, level_after}
 use Rattle.wh_text.specs.CertificateTexts.{IsTupleRow, IsLikeRow, AreMoveFields, IsMovesRow, IsFlowRow, IsSideText, IsLevelText}
 use Rattle.wh_words.specs.Limits.{most_level_tuples}
 
@@ -50,34 +49,10 @@ pub exact_tuple : (keyword : List ℕ) (n : ℕ) → n ≤ 26 → Exact (tuple_a
 unfolding tuple_after
 exact_tuple keyword n h = exact_line keyword (λ k. refused_as in_answer (tuple_at n k.number k.fields)) (IsTupleRow keyword n) (tuple_is_row keyword n h) (tuple_row_back keyword n h)
 
--- the tuple of a line, where it has so many words
-unfoldable pub tell_like : ℕ → ℕ → Kept → Result TupleData ReadError
-tell_like n count k = refused_as in_answer (tuple_at n k.number k.fields) >>= λ t. cond (length t.words == count) (Ok t) (Err (errors.BadLine k.number))
-
-abbrev pub placed : Reading → TupleData → Result (TupleData × Reading) ReadError
-placed p t = Ok (t, p)
-
-like_shape : (r : Result TupleData ReadError) (count l : ℕ) (p : Reading) →
-    (r >>= λ t. cond (length t.words == count) (placed p t) (Err (errors.BadLine l))) ≡ ((r >>= λ t. cond (length t.words == count) (Ok t) (Err (errors.BadLine l))) >>= placed p)
-like_shape (Err e) count l p = refl
-like_shape (Ok t) count l p = by (length t.words == count)
-  where
-    by : (b : Bool) → cond b (placed p t) (Err (errors.BadLine l)) ≡ (cond b (Ok t) (Err (errors.BadLine l)) >>= placed p)
-    by true = refl
-    by false = refl
-
-pub after_shape : (keyword : List ℕ) (n count : ℕ) (r : Result (Kept × Reading) ReadError) →
-    (r >>= λ k. refused_as in_answer (tuple_at n k.0.number k.0.fields) >>= λ t. cond (length t.words == count) (placed k.1 t) (Err (errors.BadLine k.0.number))) ≡ (r >>= λ k. tell_like n count k.0 >>= placed k.1)
-unfolding tell_like
-after_shape keyword n count (Err e) = refl
-after_shape keyword n count (Ok k) = like_shape (refused_as in_answer (tuple_at n k.0.number k.0.fields)) count k.0.number k.1
-
 pub exact_like : (keyword : List ℕ) (n count : ℕ) → n ≤ 26 → Exact (like_after keyword n count) (OneRow (IsLikeRow keyword n count))
-unfolding like_after tell_like
+unfolding like_after like_of
 exact_like keyword n count h =
-    exact_by (λ p. line_after keyword p >>= λ k. tell_like n count k.0 >>= λ t. Ok (t, k.1)) (like_after keyword n count) (OneRow (IsLikeRow keyword n count))
-    (λ p. after_shape keyword n count (line_after keyword p))
-    (exact_line keyword (tell_like n count) (IsLikeRow keyword n count)
+    exact_line keyword (like_of n count) (IsLikeRow keyword n count)
     (λ k t some is e.
     let a = bind_ok (refused_as in_answer (tuple_at n k.number k.fields)) (λ t. cond (length t.words == count) (Ok t) (Err (errors.BadLine k.number))) t e in
     let b = if_ok (length a.0.words == count) (errors.BadLine k.number) (Ok a.0) t a.2 in
@@ -85,7 +60,7 @@ exact_like keyword n count h =
     (subst (IsTupleRow keyword n (row_of k)) same (tuple_is_row keyword n h k a.0 some is a.1), ap (λ (u : TupleData). length u.words) (sym same) ∙ eqb-true (length a.0.words) count b.0))
     (λ r k t tells is.
     let back = tuple_row_back keyword n h r k t tells is.0 in
-    (back.0, ap (λ q. q >>= λ t. cond (length t.words == count) (Ok t) (Err (errors.BadLine k.number))) back.1 ∙ cond-true (length t.words == count) (Ok t) (Err (errors.BadLine k.number)) (eq_true (length t.words) count is.1))))
+    (back.0, ap (λ q. q >>= λ t. cond (length t.words == count) (Ok t) (Err (errors.BadLine k.number))) back.1 ∙ cond-true (length t.words == count) (Ok t) (Err (errors.BadLine k.number)) (eq_true (length t.words) count is.1)))
 
 -- ---- moves
 move_told : (n l : ℕ) (o : Option Kind) (m : Move) → or_bad_line l (move_with n o) ≡ Ok m → (k : Kind) × (o ≡ Some k) × (record { rank = n; kind = k } ≡ m)

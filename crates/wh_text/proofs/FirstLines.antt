@@ -28,10 +28,9 @@ use Rattle.wh_text.specs.RankLines.{greatest_rank, rank_at, rank_number, no_rank
 use Rattle.wh_data.specs.AnswerData.{CertificateData}
 use Rattle.wh_data.specs.AnswerData.VerdictData.{yes, no_length, no_level}
 use Rattle.wh_data.specs.AnswerData.AnswerData.{reduce, decide}
-use Rattle.wh_text.specs.Certificates.{in_answer, tuple_after, like_after, moves_after, flow_after, side_with, side_after, number_in, level_after, VerdictWord, verdict_in, sides_after, verdict_with, verdict_after, reduced_after, decided_after, answer_with, checked_command, command_at, heading_in, heading_after, done_after, answer_after, certificate}
+use Rattle.wh_text.specs.Certificates.{in_answer, tuple_after, like_of, like_after, moves_after, flow_after, side_with, side_after, number_in, level_after, VerdictWord, verdict_in, sides_after, verdict_with, verdict_after, reduced_after, decided_after, answer_with, checked_command, command_at, heading_in, heading_after, done_after, answer_after, certificate}
 use Rattle.wh_text.specs.Certificates.VerdictWord.{a_yes, a_no_length, a_no_level}
 use Rattle.wh_text.specs.CertificateTexts.{IsCertificateText}
-use Rattle.wh_text.proofs.ExactLines.{tell_like, after_shape}
 use Rattle.wh_text.proofs.ExactCertificates.{body, finish, answer_split, certified, answer_back}
 
 -- ---- tuples
@@ -82,8 +81,8 @@ refused_err (Err d) l m h e = let at = h d refl in cc
 pub tuple_in : (n : ℕ) → InLine (λ k. refused_as in_answer (tuple_at n k.number k.fields))
 tuple_in n k l e = refused_err (tuple_at n k.number k.fields) l k.number (λ d h. tuple_err n k.number k.fields d h) e
 
-pub like_in : (n count : ℕ) → InLine (tell_like n count)
-unfolding tell_like
+pub like_in : (n count : ℕ) → InLine (like_of n count)
+unfolding like_of
 like_in n count k l e = elim (bind_err (refused_as in_answer (tuple_at n k.number k.fields)) (λ t. cond (length t.words == count) (Ok t) (Err (errors.BadLine k.number))) (errors.BadLine l) e) [
   | inl w ↦ tuple_in n k l w
   | inr s ↦ by s.0 (length s.0.words == count) s.2
@@ -99,10 +98,7 @@ local_tuple l keyword n = local_line l keyword (λ k. refused_as in_answer (tupl
 
 local_like : (l : ℕ) (keyword : List ℕ) (n count : ℕ) → Local l (like_after keyword n count)
 unfolding like_after
-local_like l keyword n count =
-    local_by l (λ p. line_after keyword p >>= λ k. tell_like n count k.0 >>= λ t. Ok (t, k.1)) (like_after keyword n count)
-    (λ p. after_shape keyword n count (line_after keyword p))
-    (local_line l keyword (tell_like n count) (like_in n count))
+local_like l keyword n count = local_line l keyword (like_of n count) (like_in n count)
 
 -- ---- moves and flows
 pub moves_in : (n : ℕ) → InLine (λ k. items_at (move_at n k.number) k.fields)

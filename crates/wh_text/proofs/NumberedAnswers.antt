@@ -21,7 +21,7 @@ use Rattle.wh_lines.specs.LineReadings.{Reading, start, line_after, end_after, t
 use Rattle.wh_data.specs.AnswerData.{CertificateData}
 use Rattle.wh_data.specs.AnswerData.VerdictData.{yes, no_length, no_level}
 use Rattle.wh_data.specs.AnswerData.AnswerData.{reduce, decide}
-use Rattle.wh_text.specs.Certificates.{tuple_after, like_after, moves_after, flow_after, SideRead, side_with, side_after, number_in, level_after, VerdictWord, VerdictRead, yes_after, sides_after, no_length_after, no_level_after, verdict_in, verdict_with, verdict_after, AnswerRead, reduced_after, decided_after, answer_with, heading_in, heading_after, in_answer, with_end, done_after, answer_after, certificate}
+use Rattle.wh_text.specs.Certificates.{tuple_after, like_of, like_after, moves_after, flow_after, SideRead, side_with, side_after, number_in, level_after, VerdictWord, VerdictRead, yes_after, sides_after, no_length_after, no_level_after, verdict_in, verdict_with, verdict_after, AnswerRead, reduced_after, decided_after, answer_with, heading_in, heading_after, in_answer, with_end, done_after, answer_after, certificate}
 use Rattle.wh_words.specs.Limits.{most_level_rank, most_level_tuples}
 use Rattle.wh_data.specs.Limits.{most_answer_bytes}
 use Rattle.wh_text.specs.Certificates.VerdictWord.{a_yes, a_no_length, a_no_level}
@@ -44,12 +44,13 @@ tuple_took keyword n p r e =
     (a.0, tuple_rank n k.0.number k.0.fields a.0 a.1, a.2)) e
 
 like_took : (keyword : List ℕ) (n count : ℕ) (p : Reading) (r : TupleData × Reading) → like_after keyword n count p ≡ Ok r → Took (λ t. t.rank ≡ n) 1 p r
-unfolding like_after
+unfolding like_after like_of
 like_took keyword n count p r e =
-    let next : Kept × Reading → TupleData → Result (TupleData × Reading) ReadError = λ k t. cond (length t.words == count) (Ok (t, k.1)) (Err (errors.BadLine k.0.number)) in
-    one_line (λ (t : TupleData). t.rank ≡ n) keyword (λ k. refused_as in_answer (tuple_at n k.0.number k.0.fields) >>= next k) p r (λ k h.
-    let a = bind_ok (refused_as in_answer (tuple_at n k.0.number k.0.fields)) (next k) r h in
-    (a.0, tuple_rank n k.0.number k.0.fields a.0 a.1, (if_ok (length a.0.words == count) (errors.BadLine k.0.number) (Ok (a.0, k.1)) r a.2).1)) e
+    one_line (λ (t : TupleData). t.rank ≡ n) keyword (λ k. like_of n count k.0 >>= λ t. Ok (t, k.1)) p r (λ k h.
+    let a = bind_ok (like_of n count k.0) (λ t. Ok (t, k.1)) r h in
+    let b = bind_ok (refused_as in_answer (tuple_at n k.0.number k.0.fields)) (λ t. cond (length t.words == count) (Ok t) (Err (errors.BadLine k.0.number))) a.0 a.1 in
+    let same = (if_ok (length b.0.words == count) (errors.BadLine k.0.number) (Ok b.0) a.0 b.2).1 in
+    (a.0, ok_same (λ (t : TupleData). t.rank ≡ n) b.0 a.0 same (tuple_rank n k.0.number k.0.fields b.0 b.1), a.2)) e
 
 kind_rank : (n l : ℕ) (o : Option Kind) (m : Move) → or_bad_line l (move_with n o) ≡ Ok m → m.rank ≡ n
 kind_rank n l None m e = absurd (cc)

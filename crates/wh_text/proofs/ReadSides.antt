@@ -1,5 +1,5 @@
 -- Moves, tuples, flows and sides are read back from their rows: for the law on printed answers.
-use Rattle.std.proofs.Common.{◌≡◌, ℕ, suc, ◌+◌, ◌*◌, ◌<◌, ◌≤◌, ◌==◌, cond, List, [], ◌∷◌, length, map, get_or, sym, ap, ◌∙◌, refl, subst, arith, Result, Ok, Err}
+use Rattle.std.proofs.Common.{◌≡◌, ℕ, suc, ◌+◌, ◌*◌, ◌<◌, ◌≤◌, ◌==◌, cond, List, [], ◌∷◌, length, map, get_or, sym, ap, ◌∙◌, refl, subst, arith, Ok, Err}
 use Rattle.std.specs.Prelude.{codes}
 use Rattle.std.specs.List.{All}
 use Rattle.std.proofs.lemmas.List.Elements.{All-head, All-tail, All-map, All-weaker}
@@ -8,7 +8,6 @@ use Rattle.wh_words.specs.Words.{IsOfRank}
 use Rattle.wh_words.specs.CyclicWords.{cyclic_word}
 use Rattle.wh_words.specs.Tuples.{TupleData, IsTuple}
 use Rattle.wh_words.specs.Moves.{Move, IsKind}
-use Rattle.wh_lines.specs.declared.read_error.ReadError.{ReadError}
 use Rattle.wh_lines.specs.declared.read_error.ReadError.TheVariants as errors
 use Rattle.wh_lines.specs.Lines.{Field}
 use Rattle.wh_lines.specs.Readings.{◌>>=◌, items_at, or_bad_line, refused_as}
@@ -16,10 +15,9 @@ use Rattle.wh_fields.specs.Words.{word_text}
 use Rattle.wh_fields.specs.MoveFields.{kind_text, kind_in, move_with, move_at, IsMoveOf, moves_row}
 use Rattle.wh_fields.specs.FlowFields.{flow_value, FlowData, flow_in, IsFlowOf, heads_from, flow_row, flow_rows}
 use Rattle.wh_fields.specs.TupleFields.{tuple_at, IsTupleOf, words_row}
-use Rattle.wh_lines.specs.KeptLines.{Kept}
-use Rattle.wh_lines.specs.LineReadings.{Reading, times}
+use Rattle.wh_lines.specs.LineReadings.{times}
 use Rattle.wh_data.specs.AnswerData.{SideData}
-use Rattle.wh_text.specs.Certificates.{in_answer, tuple_after, like_after, moves_after, flow_after, SideRead, side_with, side_after}
+use Rattle.wh_text.specs.Certificates.{in_answer, tuple_after, like_of, like_after, moves_after, flow_after, SideRead, side_with, side_after}
 use Rattle.wh_data.specs.AnswerParts.{IsSideOf}
 use Rattle.wh_lines.proofs.Scanning.{eq_true}
 use Rattle.wh_fields.proofs.TupleLaws.{tuple_back}
@@ -89,14 +87,14 @@ tuple_read keyword t k h i =
     (λ k f. reads_none (λ p. refused_as in_answer (tuple_at n k.number k.fields) >>= λ u. Ok (u, p)) t (λ p. ap (λ r. r >>= λ u. Ok (u, p)) (tuple_told n k.number k.fields t h i refl f.some f.same)))
 
 pub like_read : (keyword : List ℕ) (n count : ℕ) (t : TupleData) → IsShown keyword → n ≤ 26 → IsTupleOf n count t → ReadsRows (like_after keyword n count) t (words_row keyword t.words ∷ [])
-unfolding like_after
+unfolding like_after like_of
 like_read keyword n count t k h i =
-    let next : Kept × Reading → Result (TupleData × Reading) ReadError =
-    λ k. refused_as in_answer (tuple_at n k.0.number k.0.fields) >>= λ u. cond (length u.words == count) (Ok (u, k.1)) (Err (errors.BadLine k.0.number)) in
-    row_then (words_row keyword t.words) next t [] (words_shown keyword t k (omega (arith, h, i.rank)) i.tuple)
-    (λ k f. reads_none (λ p. next (k, p)) t (λ p.
-    ap (λ r. r >>= λ u. cond (length u.words == count) (Ok (u, p)) (Err (errors.BadLine k.number))) (tuple_told n k.number k.fields t h i.tuple i.rank f.some f.same)
-    ∙ cond-true (length t.words == count) (Ok (t, p)) (Err (errors.BadLine k.number)) (eq_true (length t.words) count i.size)))
+    row_then (words_row keyword t.words) (λ k. like_of n count k.0 >>= λ u. Ok (u, k.1)) t [] (words_shown keyword t k (omega (arith, h, i.rank)) i.tuple)
+    (λ k f.
+    let told : like_of n count k ≡ Ok t =
+    ap (λ r. r >>= λ u. cond (length u.words == count) (Ok u) (Err (errors.BadLine k.number))) (tuple_told n k.number k.fields t h i.tuple i.rank f.some f.same)
+    ∙ cond-true (length t.words == count) (Ok t) (Err (errors.BadLine k.number)) (eq_true (length t.words) count i.size) in
+    reads_none (λ p. like_of n count k >>= λ u. Ok (u, p)) t (λ p. ap (λ r. r >>= λ u. Ok (u, p)) told))
 
 -- ---- flows
 -- what the line of a flow tells

@@ -11,6 +11,7 @@ use Rattle.wh_lines.specs.declared.read_error.ReadError.TheVariants as errors
 use Rattle.wh_lines.specs.Lines.{Field, are}
 use Rattle.wh_lines.specs.Readings.{◌>>=◌, items_at, or_bad_line, refused_as}
 use Rattle.wh_lines.specs.Numbers.{number}
+use Rattle.wh_lines.specs.KeptLines.{Kept}
 use Rattle.wh_fields.specs.TupleFields.{tuple_at}
 use Rattle.wh_fields.specs.FlowFields.{FlowData, flow_in}
 use Rattle.wh_data.specs.Commands.{command_named, is_unchecked_name, answer_version}
@@ -37,12 +38,18 @@ tuple_after keyword n p =
     refused_as in_answer (tuple_at n k.0.number k.0.fields) >>= λ t.
     Ok (t, k.1)
 
--- It has as many words as the first tuple of the text.
+-- The tuple of rank n of a line, which has as many words as the first tuple of the text.
+unfoldable pub like_of : ℕ → ℕ → Kept → Result TupleData ReadError
+like_of n count k =
+    refused_as in_answer (tuple_at n k.number k.fields) >>= λ t.
+    cond (length t.words == count) (Ok t) (Err (errors.BadLine k.number))
+
+-- The next line has this keyword and such a tuple.
 unfoldable pub like_after : List ℕ → ℕ → ℕ → Reading → Result (TupleData × Reading) ReadError
 like_after keyword n count p =
     line_after keyword p >>= λ k.
-    refused_as in_answer (tuple_at n k.0.number k.0.fields) >>= λ t.
-    cond (length t.words == count) (Ok (t, k.1)) (Err (errors.BadLine k.0.number))
+    like_of n count k.0 >>= λ t.
+    Ok (t, k.1)
 
 -- The next line has this keyword and moves of rank n.
 unfoldable pub moves_after : List ℕ → ℕ → Reading → Result (List Move × Reading) ReadError
@@ -68,13 +75,18 @@ pub record SideRead : Type 0 where
 abbrev pub side_with : List Move → TupleData → List FlowData → SideRead
 side_with ms t fs = record { side = record { trace = ms; end = t; flows = map (λ f. f.table) fs }; heads = map (λ f. f.head) fs }
 
+-- The side of a trace and an end, with the flows of the next lines.
+abbrev pub with_flows : ℕ → List Move → TupleData → Reading → Result (SideRead × Reading) ReadError
+with_flows n ms t p =
+    times (flow_after n) n p >>= λ fs.
+    Ok (side_with ms t fs.0, fs.1)
+
 -- The next lines are a side in rank n: `trace`, `end`, and a `flow` line for each generator.
 unfoldable pub side_after : ℕ → ℕ → Reading → Result (SideRead × Reading) ReadError
 side_after n count p =
     moves_after (codes "trace") n p >>= λ ms.
     like_after (codes "end") n count ms.1 >>= λ t.
-    times (flow_after n) n t.1 >>= λ fs.
-    Ok (side_with ms.0 t.0 fs.0, fs.1)
+    with_flows n ms.0 t.0 t.1
 
 -- A number of a range.
 abbrev pub within : ℕ → ℕ → Option ℕ → Option ℕ
@@ -87,12 +99,17 @@ number_in least most [] = None
 number_in least most (f ∷ []) = within least most (number f.bytes)
 number_in least most (f ∷ g ∷ fs) = None
 
+-- The level of a `level` line, with its tuples of the next lines: as many `at` lines as it tells.
+abbrev pub level_with : ℕ → ℕ → Kept → Reading → Result (List TupleData × Reading) ReadError
+level_with n count k p =
+    or_bad_line k.number (number_in 1 most_level_tuples k.fields) >>= λ size.
+    times (like_after (codes "at") n count) size p
+
 -- The next lines are a level in rank n: `level` with the number of its tuples, and an `at` line for each of them.
 unfoldable pub level_after : ℕ → ℕ → Reading → Result (List TupleData × Reading) ReadError
 level_after n count p =
     line_after (codes "level") p >>= λ k.
-    or_bad_line k.0.number (number_in 1 most_level_tuples k.0.fields) >>= λ size.
-    times (like_after (codes "at") n count) size k.1
+    level_with n count k.0 k.1
 
 -- ---- verdicts
 -- What a `verdict` line tells of a certificate.
@@ -169,13 +186,23 @@ reduced_after n p =
     side_after n (length t.0.words) t.1 >>= λ s.
     Ok (record { answer = reduce t.0 s.0.side; heads = s.0.heads }, s.1)
 
+-- The answer of two tuples, with the verdict of the next lines.
+abbrev pub with_verdict : ℕ → TupleData → TupleData → Reading → Result (AnswerRead × Reading) ReadError
+with_verdict n s t p =
+    verdict_after n (length s.words) p >>= λ v.
+    Ok (record { answer = decide s t v.0.verdict; heads = v.0.heads }, v.1)
+
+-- The answer of a first tuple, with the second of the next line, and the verdict.
+abbrev pub with_second : ℕ → TupleData → Reading → Result (AnswerRead × Reading) ReadError
+with_second n s p =
+    like_after (codes "second") n (length s.words) p >>= λ t.
+    with_verdict n s t.0 t.1
+
 -- The lines of an answer of `decide`.
 unfoldable pub decided_after : ℕ → Reading → Result (AnswerRead × Reading) ReadError
 decided_after n p =
     tuple_after (codes "first") n p >>= λ s.
-    like_after (codes "second") n (length s.0.words) s.1 >>= λ t.
-    verdict_after n (length s.0.words) t.1 >>= λ v.
-    Ok (record { answer = decide s.0 t.0 v.0.verdict; heads = v.0.heads }, v.1)
+    with_second n s.0 s.1
 
 abbrev pub answer_with : Command → ℕ → Reading → Result (AnswerRead × Reading) ReadError
 answer_with commands.Reduce n p = reduced_after n p

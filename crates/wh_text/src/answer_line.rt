@@ -3,7 +3,7 @@ ghost use Rattle.std.specs.Prelude.{◌≡◌, ℕ, ◌≤◌, length, map, IfOk
 ghost use Rattle.wh_lines.specs.Readings.{Gives, or_bad_line, refused_as};
 ghost use Rattle.wh_lines.specs.LineReadings.{Reads, times};
 ghost use Rattle.wh_fields.specs.TupleFields.{tuple_at};
-ghost use Rattle.wh_fields.specs.FlowFields.{FlowData};
+ghost use Rattle.wh_fields.specs.FlowFields.{FlowData, flow_in};
 ghost use Rattle.wh_lines.specs.declared.read_error.ReadError.TheVariants.{BadLine};
 ghost use Rattle.wh_text.specs.Certificates as spec;
 
@@ -61,6 +61,19 @@ pub fn tuple_after(
     tuple_of(alloc, rank, &kept)
 }
 
+/// The tuple of a line, which has so many words.
+#[tactic(auto, unfolding(crate::specs::Certificates::like_of))]
+fn like_of(alloc: Global, rank: Rank, count: usize, kept: &Kept) -> Result<Tuple, ReadError>
+    ensures { Gives (λ t. t.plain) result (spec.like_of rank count kept.now) }
+{
+    let tuple = tuple_of(alloc, rank, kept)?;
+    if tuple.count() != count {
+        drop(tuple);
+        return Err(bad_line(kept));
+    }
+    Ok(tuple)
+}
+
 /// The tuple of the next line, which has this keyword and so many words.
 #[tactic(auto, unfolding(crate::specs::Certificates::like_after))]
 pub fn like_after(
@@ -73,11 +86,7 @@ pub fn like_after(
     ensures { Reads (λ t. t.plain) result reader.new (spec.like_after keyword.now rank count reader.old) }
 {
     let kept = reader.line_after(keyword)?;
-    let tuple = tuple_of(alloc, rank, &kept)?;
-    if tuple.count() != count {
-        return Err(bad_line(&kept));
-    }
-    Ok(tuple)
+    like_of(alloc, rank, count, &kept)
 }
 
 /// The moves of the next line, which has this keyword.
@@ -94,16 +103,23 @@ pub fn moves_after(
     read_moves(alloc, rank, kept.number() as u64, kept.fields())
 }
 
+/// What a `flow` line tells.
+fn flow_of(rank: Rank, kept: &Kept) -> Result<FlowLine, ReadError>
+    ensures { Gives (λ f. f) result (or_bad_line kept.now.number (flow_in rank kept.now.fields)) }
+{
+    match read_flow(rank.get(), kept.fields()) {
+        Some(flow) => Ok(flow),
+        None => Err(bad_line(kept)),
+    }
+}
+
 /// What the next line tells, which is a `flow` line.
 #[tactic(auto, unfolding(crate::specs::Certificates::flow_after))]
 fn flow_after(rank: Rank, reader: &mut Reader) -> Result<FlowLine, ReadError>
     ensures { Reads (λ f. f) result reader.new (spec.flow_after rank reader.old) }
 {
     let kept = reader.line_after(b"flow")?;
-    match read_flow(rank.get(), kept.fields()) {
-        Some(flow) => Ok(flow),
-        None => Err(bad_line(&kept)),
-    }
+    flow_of(rank, &kept)
 }
 
 /// What the next lines tell, which are a `flow` line for each generator.

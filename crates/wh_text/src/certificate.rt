@@ -12,13 +12,13 @@ ghost use Rattle.wh_data.specs.Numberings.{IsNumbered};
 
 use crate::answer_line::{bad_line, in_answer, like_after, tuple_after};
 use crate::rank_line::read_rank;
-use crate::side_reading::side_after;
-use crate::verdict_reading::verdict_after;
+use crate::side_reading::{ReadSide, side_after};
+use crate::verdict_reading::{ReadVerdict, verdict_after};
 use std::alloc::Global;
 use std::marker::Model;
 use wh_data::{Answer, Command, MOST_ANSWER_BYTES, Numbered, answer_version, is_unchecked_name};
 use wh_lines::{Field, ReadError, Reader};
-use wh_words::{Letter, List, Rank};
+use wh_words::{Letter, List, Rank, Tuple};
 
 /// An answer, and the letters and values that its `flow` lines name.
 #[derive(Drop)]
@@ -84,14 +84,61 @@ fn reduced_after(alloc: Global, rank: Rank, reader: &mut Reader) -> Result<ReadA
     ensures { Reads (λ a. a) result reader.new (spec.reduced_after rank reader.old) }
 {
     let tuple = tuple_after(alloc, b"tuple", rank, reader)?;
-    let side = side_after(alloc, rank, tuple.count(), reader)?;
-    Ok(ReadAnswer {
-        answer: Answer::Reduce {
-            tuple,
-            side: side.side,
-        },
-        heads: side.heads,
-    })
+    match side_after(alloc, rank, tuple.count(), reader) {
+        Ok(ReadSide { side, heads }) => Ok(ReadAnswer {
+            answer: Answer::Reduce { tuple, side },
+            heads,
+        }),
+        Err(error) => {
+            drop(tuple);
+            Err(error)
+        }
+    }
+}
+
+/// The answer of two tuples, with the verdict of the next lines.
+fn with_verdict(
+    alloc: Global,
+    rank: Rank,
+    first: Tuple,
+    second: Tuple,
+    reader: &mut Reader,
+) -> Result<ReadAnswer, ReadError>
+    ensures { Reads (λ a. a) result reader.new (spec.with_verdict rank first.plain second.plain reader.old) }
+{
+    match verdict_after(alloc, rank, first.count(), reader) {
+        Ok(ReadVerdict { verdict, heads }) => Ok(ReadAnswer {
+            answer: Answer::Decide {
+                first,
+                second,
+                verdict,
+            },
+            heads,
+        }),
+        Err(error) => {
+            drop(first);
+            drop(second);
+            Err(error)
+        }
+    }
+}
+
+/// The answer of a first tuple, with the second of the next line, and the verdict.
+fn with_second(
+    alloc: Global,
+    rank: Rank,
+    first: Tuple,
+    reader: &mut Reader,
+) -> Result<ReadAnswer, ReadError>
+    ensures { Reads (λ a. a) result reader.new (spec.with_second rank first.plain reader.old) }
+{
+    match like_after(alloc, b"second", rank, first.count(), reader) {
+        Ok(second) => with_verdict(alloc, rank, first, second, reader),
+        Err(error) => {
+            drop(first);
+            Err(error)
+        }
+    }
 }
 
 /// The answer of `decide` that the next lines tell.
@@ -100,16 +147,7 @@ fn decided_after(alloc: Global, rank: Rank, reader: &mut Reader) -> Result<ReadA
     ensures { Reads (λ a. a) result reader.new (spec.decided_after rank reader.old) }
 {
     let first = tuple_after(alloc, b"first", rank, reader)?;
-    let second = like_after(alloc, b"second", rank, first.count(), reader)?;
-    let verdict = verdict_after(alloc, rank, first.count(), reader)?;
-    Ok(ReadAnswer {
-        answer: Answer::Decide {
-            first,
-            second,
-            verdict: verdict.verdict,
-        },
-        heads: verdict.heads,
-    })
+    with_second(alloc, rank, first, reader)
 }
 
 /// The answer of a command that the next lines tell.

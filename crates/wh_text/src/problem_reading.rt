@@ -79,10 +79,13 @@ fn decide_both(first: Tuple, second: Tuple) -> Result<Problem, ReadError>
     ensures { Gives problem_of result (spec.decide_both first.plain second.plain) }
 {
     if first.count() != second.count() {
-        return Err(ReadError::SizeMismatch {
+        let refusal = ReadError::SizeMismatch {
             first: first.count() as u64,
             second: second.count() as u64,
-        });
+        };
+        drop(first);
+        drop(second);
+        return Err(refusal);
     }
     Ok(Problem::Decide { first, second })
 }

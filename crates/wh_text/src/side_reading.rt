@@ -10,7 +10,7 @@ use std::marker::Model;
 use wh_data::Side;
 use wh_fields::FlowLine;
 use wh_flow::Flow;
-use wh_lines::{ReadError, Reader};
+use wh_lines::{Kept, ReadError, Reader};
 use wh_moves::Move;
 use wh_words::{Letter, List, MOST_LEVEL_TUPLES, OutOfMemory, Rank, Tuple};
 
@@ -57,15 +57,39 @@ fn side_with(
 ) -> Result<ReadSide, OutOfMemory>
     ensures { IfOk result (λ s. s ≡ spec.side_with trace end.plain lines.items) }
 {
-    let (heads, flows) = split_flows(alloc, lines)?;
-    Ok(ReadSide {
-        side: Side {
-            trace,
-            end,
-            flows: List::of(flows),
-        },
-        heads,
-    })
+    match split_flows(alloc, lines) {
+        Ok((heads, flows)) => Ok(ReadSide {
+            side: Side {
+                trace,
+                end,
+                flows: List::of(flows),
+            },
+            heads,
+        }),
+        Err(error) => {
+            drop(end);
+            Err(error)
+        }
+    }
+}
+
+/// The side of a trace and an end, with the flows of the next lines.
+fn with_flows(
+    alloc: Global,
+    rank: Rank,
+    trace: List<Move>,
+    end: Tuple,
+    reader: &mut Reader,
+) -> Result<ReadSide, ReadError>
+    ensures { Reads (λ s. s) result reader.new (spec.with_flows rank trace end.plain reader.old) }
+{
+    match flows_after(alloc, rank, reader) {
+        Ok(lines) => Ok(side_with(alloc, trace, end, lines)?),
+        Err(error) => {
+            drop(end);
+            Err(error)
+        }
+    }
 }
 
 /// The side that the next lines tell: `trace`, `end`, and a `flow` line for each generator.
@@ -80,8 +104,27 @@ pub fn side_after(
 {
     let trace = moves_after(alloc, b"trace", rank, reader)?;
     let end = like_after(alloc, b"end", rank, count, reader)?;
-    let lines = flows_after(alloc, rank, reader)?;
-    Ok(side_with(alloc, trace, end, lines)?)
+    with_flows(alloc, rank, trace, end, reader)
+}
+
+/// The level of a `level` line, with its tuples of the next lines: as many `at` lines as it tells.
+fn level_with(
+    alloc: Global,
+    rank: Rank,
+    count: usize,
+    kept: &Kept,
+    reader: &mut Reader,
+) -> Result<List<Tuple>, ReadError>
+    ensures { Reads plains result reader.new (spec.level_with rank count kept.now reader.old) }
+{
+    let size = read_number(
+        kept.number() as u64,
+        1,
+        MOST_LEVEL_TUPLES as u64,
+        kept.fields(),
+    )?;
+    let tuples = tuples_after(alloc, rank, count, size as usize, reader)?;
+    Ok(List::of(tuples))
 }
 
 /// The level that the next lines tell: `level` with the number of its tuples, 1 to 131,072, and an `at` line for each.
@@ -95,12 +138,5 @@ pub fn level_after(
     ensures { Reads plains result reader.new (spec.level_after rank count reader.old) }
 {
     let kept = reader.line_after(b"level")?;
-    let size = read_number(
-        kept.number() as u64,
-        1,
-        MOST_LEVEL_TUPLES as u64,
-        kept.fields(),
-    )?;
-    let tuples = tuples_after(alloc, rank, count, size as usize, reader)?;
-    Ok(List::of(tuples))
+    level_with(alloc, rank, count, &kept, reader)
 }

@@ -179,6 +179,23 @@ fn no_level_after(
     }
 }
 
+/// The verdict of the lines after a verdict line that tells this.
+fn verdict_with(
+    alloc: Global,
+    rank: Rank,
+    count: usize,
+    word: Word,
+    reader: &mut Reader,
+) -> Result<ReadVerdict, ReadError>
+    ensures { Reads (λ v. v) result reader.new (spec.verdict_with rank count (word_of word) reader.old) }
+{
+    match word {
+        Word::Yes => yes_after(alloc, rank, reader),
+        Word::NoLength => no_length_after(alloc, rank, count, reader),
+        Word::NoLevel => no_level_after(alloc, rank, count, reader),
+    }
+}
+
 /// The verdict that the next lines tell.
 #[tactic(auto, unfolding(crate::specs::Certificates::verdict_after))]
 pub fn verdict_after(
@@ -190,9 +207,6 @@ pub fn verdict_after(
     ensures { Reads (λ v. v) result reader.new (spec.verdict_after rank count reader.old) }
 {
     let kept = reader.line_after(b"verdict")?;
-    match read_word(kept.number() as u64, kept.fields())? {
-        Word::Yes => yes_after(alloc, rank, reader),
-        Word::NoLength => no_length_after(alloc, rank, count, reader),
-        Word::NoLevel => no_level_after(alloc, rank, count, reader),
-    }
+    let word = read_word(kept.number() as u64, kept.fields())?;
+    verdict_with(alloc, rank, count, word, reader)
 }

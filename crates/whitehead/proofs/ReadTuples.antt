@@ -16,7 +16,7 @@ use Rattle.wh_text.specs.RankLines.{greatest_rank, rank_at, no_rank, rank_after}
 use Rattle.wh_data.specs.AnswerData.{CertificateData}
 use Rattle.wh_data.specs.AnswerData.VerdictData.{yes, no_length, no_level}
 use Rattle.wh_data.specs.AnswerData.AnswerData.{reduce, decide}
-use Rattle.wh_text.specs.Certificates.{in_answer, tuple_after, like_after, moves_after, flow_after, SideRead, side_with, side_after, level_after, VerdictWord, VerdictRead, sides_after, verdict_in, verdict_with, verdict_after, AnswerRead, reduced_after, decided_after, answer_with, heading_after, done_after, with_end, answer_after, certificate}
+use Rattle.wh_text.specs.Certificates.{in_answer, tuple_after, like_of, like_after, moves_after, flow_after, SideRead, side_with, side_after, level_after, VerdictWord, VerdictRead, sides_after, verdict_in, verdict_with, verdict_after, AnswerRead, reduced_after, decided_after, answer_with, heading_after, done_after, with_end, answer_after, certificate}
 use Rattle.wh_data.specs.Limits.{most_answer_bytes}
 use Rattle.wh_text.specs.Certificates.VerdictWord.{a_yes, a_no_length, a_no_level}
 use Rattle.wh_text.proofs.RankLaws.{rank_is}
@@ -48,14 +48,14 @@ after_told keyword n p r h e =
     (read_told n a.0.0.number a.0.0.fields b.0 h b.1)
 
 like_told : (keyword : List ℕ) (n count : ℕ) (p : Reading) (r : TupleData × Reading) → n ≤ 26 → like_after keyword n count p ≡ Ok r → IsTupleIn n r.0
-unfolding like_after
+unfolding like_after like_of
 like_told keyword n count p r h e =
-    let next : Kept × Reading → TupleData → Result (TupleData × Reading) ReadError = λ k t. cond (length t.words == count) (Ok (t, k.1)) (Err (errors.BadLine k.0.number)) in
-    let a = bind_ok (line_after keyword p) (λ k. refused_as in_answer (tuple_at n k.0.number k.0.fields) >>= next k) r e in
-    let b = bind_ok (refused_as in_answer (tuple_at n a.0.0.number a.0.0.fields)) (next a.0) r a.2 in
-    let c = if_ok (length b.0.words == count) (errors.BadLine a.0.0.number) (Ok (b.0, a.0.1)) r b.2 in
-    ok_same (λ (x : TupleData × Reading). IsTupleIn n x.0) (b.0, a.0.1) r c.1
-    (read_told n a.0.0.number a.0.0.fields b.0 h b.1)
+    let a = bind_ok (line_after keyword p) (λ k. like_of n count k.0 >>= λ t. Ok (t, k.1)) r e in
+    let b = bind_ok (like_of n count a.0.0) (λ t. Ok (t, a.0.1)) r a.2 in
+    let c = bind_ok (refused_as in_answer (tuple_at n a.0.0.number a.0.0.fields)) (λ t. cond (length t.words == count) (Ok t) (Err (errors.BadLine a.0.0.number))) b.0 b.1 in
+    let same = (if_ok (length c.0.words == count) (errors.BadLine a.0.0.number) (Ok c.0) b.0 c.2).1 in
+    ok_same (λ (x : TupleData × Reading). IsTupleIn n x.0) (b.0, a.0.1) r b.2
+    (ok_same (IsTupleIn n) c.0 b.0 same (read_told n a.0.0.number a.0.0.fields c.0 h c.1))
 
 -- ---- sides and verdicts
 side_told : (n count : ℕ) (p : Reading) (r : SideRead × Reading) → n ≤ 26 → side_after n count p ≡ Ok r → IsTuple r.0.side.end
