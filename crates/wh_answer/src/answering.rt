@@ -1,16 +1,16 @@
 //! The answer to a problem.
-ghost use Rattle.std.specs.Prelude.{ℕ, IfOk};
+ghost use Rattle.std.specs.Prelude.{◌≡◌, ℕ, IfOk};
 ghost use Rattle.wh_data.specs.ProblemData.{problem_of};
 ghost use Rattle.wh_data.specs.ProblemData.ProblemData.{reduce as to_reduce, decide as to_decide};
-ghost use Rattle.wh_data.specs.AnswerTexts.{IsPrintable};
-ghost use Rattle.wh_data.specs.AnswerData.{answer_of};
-ghost use Rattle.wh_answer.specs.Answers.{Answers, IsAnswerable};
+ghost use Rattle.wh_data.specs.AnswerTexts.{IsPrintable, IsPrintableVerdict};
+ghost use Rattle.wh_data.specs.AnswerData.{answer_of, verdict_of};
+ghost use Rattle.wh_answer.specs.Answers.{Answers, IsAnswerable, IsVerdict};
 ghost use Rattle.wh_answer.specs.Certified.{IsDecided, IsValid};
 
 use crate::deciding::decide;
 use crate::side::side_of;
 use std::alloc::Global;
-use wh_data::{Answer, Problem};
+use wh_data::{Answer, Problem, Verdict};
 use wh_reduce::reduce;
 use wh_words::{OutOfMemory, Tuple};
 
@@ -23,10 +23,48 @@ fn reduced(alloc: Global, tuple: &Tuple) -> Result<Answer, OutOfMemory>
     // The proof takes from these calls that it is a tuple, and of which ranks.
     tuple.rank().get();
     let trace = reduce(alloc, tuple)?;
-    Ok(Answer::Reduce {
-        tuple: tuple.copy(alloc)?,
-        side: side_of(alloc, trace)?,
-    })
+    let side = side_of(alloc, trace)?;
+    match tuple.copy(alloc) {
+        Ok(tuple) => Ok(Answer::Reduce { tuple, side }),
+        Err(error) => {
+            drop(side);
+            Err(error)
+        }
+    }
+}
+
+/// Copies of two tuples.
+fn copies(alloc: Global, first: &Tuple, second: &Tuple) -> Result<(Tuple, Tuple), OutOfMemory>
+    ensures first { IfOk result (λ both. both.0.plain ≡ first.now.plain) }
+    ensures second { IfOk result (λ both. both.1.plain ≡ second.now.plain) }
+{
+    let first = first.copy(alloc)?;
+    let second = second.copy(alloc)?;
+    Ok((first, second))
+}
+
+/// The answer that is this verdict on two tuples.
+fn answer_with(
+    alloc: Global,
+    first: &Tuple,
+    second: &Tuple,
+    verdict: Verdict,
+) -> Result<Answer, OutOfMemory>
+    requires printable { IsPrintableVerdict (verdict_of verdict) }
+    ensures answers { (limit : ℕ) → IsVerdict limit first.now.plain second.now.plain verdict → IfOk result (Answers limit (to_decide first.now.plain second.now.plain)) }
+    ensures printable { IfOk result (λ a. IsPrintable (answer_of a)) }
+{
+    match copies(alloc, first, second) {
+        Ok((first, second)) => Ok(Answer::Decide {
+            first,
+            second,
+            verdict,
+        }),
+        Err(error) => {
+            drop(verdict);
+            Err(error)
+        }
+    }
 }
 
 /// The answer where a verdict on two tuples is asked for.
@@ -39,11 +77,8 @@ fn decided(alloc: Global, first: &Tuple, second: &Tuple, limit: u32) -> Result<A
     // The proof takes from these calls that both are tuples.
     first.rank().get();
     second.rank();
-    Ok(Answer::Decide {
-        first: first.copy(alloc)?,
-        second: second.copy(alloc)?,
-        verdict: decide(alloc, first, second, limit)?,
-    })
+    let verdict = decide(alloc, first, second, limit)?;
+    answer_with(alloc, first, second, verdict)
 }
 
 /// The answer to a problem, where levels may have at most so many tuples. It can be printed.

@@ -2,20 +2,57 @@
 ghost use Rattle.std.specs.Prelude.{◌≡◌, ◌≢◌, ℕ, ◌≤◌, length, map, IfOk};
 ghost use Rattle.wh_words.specs.Limits.{most_level_rank, most_level_length};
 ghost use Rattle.wh_words.specs.Tuples.{TupleData, tuple_length};
-ghost use Rattle.wh_words.specs.CapacityTraces.{IsFlatByCapacities};
+ghost use Rattle.wh_words.specs.CapacityTraces.{IsFlatByCapacities, IsCapacityTrace};
 ghost use Rattle.wh_words.specs.Levels.{InLevel, IsLevel};
-ghost use Rattle.wh_data.specs.AnswerData.{verdict_of};
-ghost use Rattle.wh_data.specs.AnswerTexts.{IsPrintableVerdict};
-ghost use Rattle.wh_answer.specs.Answers.{IsVerdict};
+ghost use Rattle.wh_data.specs.AnswerData.{side_of as told_side, verdict_of};
+ghost use Rattle.wh_data.specs.AnswerTexts.{IsPrintableSide, IsPrintableVerdict};
+ghost use Rattle.wh_answer.specs.Answers.{IsSideOf, IsVerdict};
 ghost use Rattle.wh_answer.specs.Findings.{Finds};
 ghost use Rattle.wh_answer.specs.Traced.{AreTraced, AreApart};
 
 use crate::finding::{Finding, find};
 use crate::side::side_of;
 use std::alloc::Global;
-use wh_data::Verdict;
+use wh_data::{Side, Verdict};
 use wh_reduce::{Trace, reduce};
 use wh_words::{List, OutOfMemory, Tuple};
+
+/// A side, and beside it that of the tuple that has this trace.
+fn sides_with(alloc: Global, first: Side, second: Trace) -> Result<(Side, Side), OutOfMemory>
+    requires flat { IsFlatByCapacities second.end.plain }
+    requires printable { IsPrintableSide (told_side first) }
+    ensures first { IfOk result (λ sides. sides.0 ≡ first) }
+    ensures second { (t : TupleData) → IsCapacityTrace t second.moves second.end.plain → IfOk result (λ sides. IsSideOf t sides.1) }
+    ensures own { IfOk result (λ sides. (sides.1.trace ≡ second.moves) × (sides.1.end ≡ second.end)) }
+    ensures printable { IfOk result (λ sides. IsPrintableSide (told_side sides.0) × IsPrintableSide (told_side sides.1)) }
+{
+    match side_of(alloc, second) {
+        Ok(second) => Ok((first, second)),
+        Err(error) => {
+            drop(first);
+            Err(error)
+        }
+    }
+}
+
+/// The sides of two tuples that have these traces.
+fn sides_of(alloc: Global, first: Trace, second: Trace) -> Result<(Side, Side), OutOfMemory>
+    requires first_flat { IsFlatByCapacities first.end.plain }
+    requires second_flat { IsFlatByCapacities second.end.plain }
+    ensures first { (s t : TupleData) → AreTraced s t first second → IfOk result (λ sides. IsSideOf s sides.0) }
+    ensures second { (s t : TupleData) → AreTraced s t first second → IfOk result (λ sides. IsSideOf t sides.1) }
+    ensures first_own { IfOk result (λ sides. (sides.0.trace ≡ first.moves) × (sides.0.end ≡ first.end)) }
+    ensures second_own { IfOk result (λ sides. (sides.1.trace ≡ second.moves) × (sides.1.end ≡ second.end)) }
+    ensures printable { IfOk result (λ sides. IsPrintableSide (told_side sides.0) × IsPrintableSide (told_side sides.1)) }
+{
+    match side_of(alloc, first) {
+        Ok(first) => sides_with(alloc, first, second),
+        Err(error) => {
+            drop(second);
+            Err(error)
+        }
+    }
+}
 
 /// The verdict where the traces end at different lengths.
 fn other_lengths(alloc: Global, first: Trace, second: Trace) -> Result<Verdict, OutOfMemory>
@@ -25,8 +62,7 @@ fn other_lengths(alloc: Global, first: Trace, second: Trace) -> Result<Verdict, 
     ensures verdict { (limit : ℕ) (s t : TupleData) → AreTraced s t first second → IfOk result (IsVerdict limit s t) }
     ensures printable { IfOk result (λ v. IsPrintableVerdict (verdict_of v)) }
 {
-    let first = side_of(alloc, first)?;
-    let second = side_of(alloc, second)?;
+    let (first, second) = sides_of(alloc, first, second)?;
     Ok(Verdict::NoLength(first, second))
 }
 
@@ -46,8 +82,7 @@ fn off_level(
     ensures verdict { (limit : ℕ) (s t : TupleData) → length level ≤ limit → AreTraced s t first second → IfOk result (IsVerdict limit s t) }
     ensures printable { IfOk result (λ v. IsPrintableVerdict (verdict_of v)) }
 {
-    let first = side_of(alloc, first)?;
-    let second = side_of(alloc, second)?;
+    let (first, second) = sides_of(alloc, first, second)?;
     Ok(Verdict::NoLevel(first, second, level))
 }
 
@@ -65,10 +100,41 @@ fn verdict_by(
     ensures printable { IfOk result (λ v. IsPrintableVerdict (verdict_of v)) }
 {
     match found {
-        Finding::Moves(moves) => Ok(Verdict::Yes(moves)),
-        Finding::Bound(bound) => Ok(Verdict::Undecided(bound)),
+        Finding::Moves(moves) => {
+            drop(first);
+            drop(second);
+            Ok(Verdict::Yes(moves))
+        }
+        Finding::Bound(bound) => {
+            drop(first);
+            drop(second);
+            Ok(Verdict::Undecided(bound))
+        }
         Finding::Lengths => other_lengths(alloc, first, second),
         Finding::Level(level) => off_level(alloc, first, second, level),
+    }
+}
+
+/// The verdict on two tuples that have these traces.
+fn decide_traced(
+    alloc: Global,
+    first: Trace,
+    second: Trace,
+    limit: u32,
+) -> Result<Verdict, OutOfMemory>
+    requires rank { first.end.plain.rank ≤ most_level_rank }
+    requires first_flat { IsFlatByCapacities first.end.plain }
+    requires second_flat { IsFlatByCapacities second.end.plain }
+    ensures verdict { (s t : TupleData) → AreTraced s t first second → IfOk result (IsVerdict limit s t) }
+    ensures printable { IfOk result (λ v. IsPrintableVerdict (verdict_of v)) }
+{
+    match find(alloc, &first, &second, limit) {
+        Ok(found) => verdict_by(alloc, first, second, found),
+        Err(error) => {
+            drop(first);
+            drop(second);
+            Err(error)
+        }
     }
 }
 
@@ -88,7 +154,11 @@ pub fn decide(
     first.rank();
     second.rank();
     let first = reduce(alloc, first)?;
-    let second = reduce(alloc, second)?;
-    let found = find(alloc, &first, &second, limit)?;
-    verdict_by(alloc, first, second, found)
+    match reduce(alloc, second) {
+        Ok(second) => decide_traced(alloc, first, second, limit),
+        Err(error) => {
+            drop(first);
+            Err(error)
+        }
+    }
 }

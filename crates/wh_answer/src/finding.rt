@@ -58,9 +58,16 @@ fn find_in(
     requires root { level.root ≡ first.now.end.plain }
     ensures { (limit : ℕ) → length level.tuples ≤ limit → IfOk result (Finds limit first.now second.now) }
 {
-    match walk(alloc, &level, &second.end)? {
-        Some(moves) => moves_by(alloc, first, &moves, second),
-        None => Ok(Finding::Level(List::of(level.into_tuples()))),
+    match walk(alloc, &level, &second.end) {
+        Ok(Some(moves)) => {
+            drop(level);
+            moves_by(alloc, first, &moves, second)
+        }
+        Ok(None) => Ok(Finding::Level(List::of(level.into_tuples()))),
+        Err(error) => {
+            drop(level);
+            Err(error)
+        }
     }
 }
 

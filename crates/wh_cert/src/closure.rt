@@ -8,7 +8,7 @@ ghost use Rattle.wh_words.specs.Tuples.{IsTuple};
 ghost use Rattle.wh_words.specs.Action as spec;
 ghost use Rattle.wh_words.specs.Levels.{IsLevelMove};
 ghost use Rattle.wh_cert.specs.Demands.{ImagesAreIn};
-ghost use Rattle.wh_cert.specs.Listings.{IsRoomy};
+ghost use Rattle.wh_cert.specs.Listings.{IsRoomy, SwapsStay};
 ghost use Rattle.wh_cert.specs.Orbits.{PermutesLetters, HasEarlierImage, IsPermutedIn, IsJudged, IsClosed};
 
 use crate::images::images_are_in;
@@ -37,6 +37,26 @@ fn is_earlier(
     Some(listed.place(image)? < place)
 }
 
+/// Whether an image of a tuple under a swap stands in a list before a place. None where one of these images isn't in the
+/// list.
+fn has_earlier_swap(
+    listed: &TupleSet,
+    tuple: &Tuple,
+    place: usize,
+    image: &mut Tuple,
+) -> Option<bool>
+    requires roomy { IsRoomy image.old }
+    ensures earlier { MatchOption result (¬ (ImagesAreIn listed.now tuple.now.plain)) (λ b. SwapsStay listed.now tuple.now.plain × (IsTrue b → HasEarlierImage listed.now tuple.now.plain place)) }
+    ensures roomy { IsRoomy image.new }
+{
+    let rank = tuple.rank();
+    let mut earlier = false;
+    for k in 1..rank.get() {
+        earlier |= is_earlier(listed, tuple, &Move::swap(rank, k).unwrap(), place, image)?;
+    }
+    Some(earlier)
+}
+
 /// Whether an image of a tuple under a swap or the inversion of the first generator stands in a list before a place.
 /// None where one of these images isn't in the list. They tell of the inversions of the others, which swaps carry to
 /// the first.
@@ -50,13 +70,10 @@ fn has_earlier_image(
     ensures earlier { MatchOption result (¬ (ImagesAreIn listed.now tuple.now.plain)) (λ b. IsPermutedIn listed.now tuple.now.plain × (IsTrue b → HasEarlierImage listed.now tuple.now.plain place)) }
     ensures roomy { IsRoomy image.new }
 {
-    let rank = tuple.rank();
-    let mut earlier = false;
-    for k in 1..rank.get() {
-        earlier |= is_earlier(listed, tuple, &Move::swap(rank, k).unwrap(), place, image)?;
-    }
-    let inverted = is_earlier(listed, tuple, &Move::invert(rank, 1).unwrap(), place, image)?;
-    Some(earlier || inverted)
+    let first = Move::invert(tuple.rank(), 1).unwrap();
+    let swapped = has_earlier_swap(listed, tuple, place, image)?;
+    let inverted = is_earlier(listed, tuple, &first, place, image)?;
+    Some(swapped || inverted)
 }
 
 /// Whether an image of a tuple under the inversion of another generator than the first stands in a list before a place.

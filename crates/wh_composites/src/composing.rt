@@ -1,9 +1,10 @@
 //! The composite of a list of moves.
-ghost use Rattle.std.specs.Prelude.{◌≡◌, ℕ, ◌*◌, ◌≤◌, [], length, map, IfOk, IfErr};
+ghost use Rattle.std.specs.Prelude.{◌≡◌, ℕ, ◌*◌, ◌≤◌, ◌++◌, [], length, map, IfOk, IfErr, OnOk};
 ghost use Rattle.std.specs.List.{All};
 ghost use Rattle.wh_words.specs.Limits.{most_rank};
 ghost use Rattle.wh_words.specs.Words.{free_reduction};
 ghost use Rattle.wh_words.specs.Moves.{IsMove};
+ghost use Rattle.wh_words.specs.Images.{image};
 ghost use Rattle.wh_words.specs.Action.{substitute};
 ghost use Rattle.wh_words.specs.Composites.{composite};
 ghost use Rattle.wh_composites.specs.Limits.{most_image_letters};
@@ -49,14 +50,27 @@ fn generators(alloc: Global, rank: Rank) -> Result<Vec<Word>, OutOfMemory>
     Ok(images)
 }
 
+/// Puts the image of a letter under a move behind other letters.
+fn push_image(
+    alloc: Global,
+    letters: &mut Vec<Letter>,
+    m: &Move,
+    x: Letter,
+) -> Result<(), OutOfMemory>
+    ensures { OnOk result (letters.new.items ≡ letters.old.items ++ image m.now.kind x) }
+{
+    let image = image_word(alloc, m, x)?;
+    letters.extend_from_slice(image.letters())?;
+    Ok(())
+}
+
 /// A word with the image of each letter under a move in its place, reduced.
-#[tactic(auto, using(crate::proofs::ComposedImages::substitute_more))]
 fn substituted(alloc: Global, m: &Move, word: &[Letter]) -> Result<Word, OutOfMemory>
     ensures { IfOk result (λ w. w ≡ free_reduction (substitute m.now.kind word.now)) }
 {
     let mut letters = Vec::new(alloc);
     for x in word {
-        letters.extend_from_slice(image_word(alloc, m, *x)?.letters())?;
+        push_image(alloc, &mut letters, m, *x)?;
     }
     Word::reduce(alloc, &letters)
 }

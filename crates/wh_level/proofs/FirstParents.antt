@@ -1,7 +1,7 @@
 -- What the search for first walks answers.
 use Rattle.std.proofs.Common.{◌≡◌, ℕ, ◌<◌, ◌≤◌, Bool, true, false, List, [], ◌∷◌, length, get_or, map, Some, None, slice_get, Contains, refl, sym, ap, ◌∙◌, subst, arith, inl, inr}
 use Rattle.std.proofs.lemmas.Bool.{cases_lt, true≢false}
-use Rattle.std.proofs.lemmas.List.{length-map, get_or_default}
+use Rattle.std.proofs.lemmas.List.{length-map}
 use Rattle.std.proofs.lemmas.Option.{slice_get-map, slice_get-get_or, slice_get_within, slice_get_read, get_or_from_slice_get, same_Some}
 use Rattle.std.specs.Bool.{MatchBool}
 use Rattle.std.specs.List.{All}
@@ -10,7 +10,6 @@ use Rattle.wh_words.specs.Tuples.{TupleData}
 use Rattle.wh_words.specs.Levels.{InLevel}
 use Rattle.wh_expand.specs.declared.row.Row.{Row}
 use Rattle.wh_expand.specs.Rows.{IsRow, row_tuple}
-use Rattle.wh_level.specs.PlacedTuples.{AreRowNumbers}
 use Rattle.wh_level.specs.Sealings.{IsMissed}
 use Rattle.wh_level.specs.Searches.{SearchData, started, IsSearched, HasCells, IsAbsentImage}
 use Rattle.wh_level.proofs.SearchEnds.{searched_at_start, queue_room, queue_tuple}
@@ -40,10 +39,6 @@ pub cells_of : {root : TupleData} {tuples : List TupleData} {s : SearchData} {at
 cells_of u = record { parents = u.known.parents; seen = u.known.places }
 
 -- ---- its row
-pub row_at : (ts places : List TupleData) (numbers : List ℕ) (v n : ℕ) (t : TupleData) → AreRowNumbers ts places numbers → slice_get places v ≡ Some t → n ≡ get_or numbers v n → slice_get ts n ≡ Some t
-row_at ts places numbers v n t are at is =
-    ap (slice_get ts) (is ∙ get_or_default numbers v n 0 (omega (arith, are.count, slice_get_within places v t at))) ∙ are.rows v t at
-
 pub row_within : (rows : List Row) (n : ℕ) (t : TupleData) → slice_get (map row_tuple rows) n ≡ Some t → n < length rows
 row_within rows n t h = omega (arith, slice_get_within (map row_tuple rows) n t h, length-map rows row_tuple)
 

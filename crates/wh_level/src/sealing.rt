@@ -79,6 +79,23 @@ fn seal_placed(
     }
 }
 
+/// The same, in a tuple for images that is made for it.
+fn seal_in_room(
+    alloc: Global,
+    root: &Tuple,
+    rows: &[Row],
+    places: &TupleSet,
+) -> Result<Sealed, OutOfMemory>
+    requires rank { root.now.plain.rank ≤ most_level_rank }
+    requires rows { All IsRow rows.now }
+    requires placing { IsPlacing (map row_tuple rows.now) places.now }
+    requires within { All (λ r. InLevel root.now.plain (row_tuple r)) rows.now }
+    ensures { IfOk result (Seals root.now.plain (map row_tuple rows.now)) }
+{
+    let mut image = blank(alloc, root)?;
+    seal_placed(alloc, root, rows, places, &mut image)
+}
+
 /// Whether rows are the whole level of a root of rank MOST_LEVEL_RANK at most, or which of its images they miss. Each
 /// row has the level moves of its tuple, which is in the level of the root. `Closed` comes exactly where the tuples of
 /// the rows are the whole level (Lyndon and Schupp, I.4).
@@ -88,7 +105,6 @@ pub fn seal(alloc: Global, root: &Tuple, rows: &[Row]) -> Result<Sealed, OutOfMe
     requires within { All (λ r. InLevel root.now.plain (row_tuple r)) rows.now }
     ensures { IfOk result (Seals root.now.plain (map row_tuple rows.now)) }
 {
-    let mut image = blank(alloc, root)?;
     let places = placed(alloc, rows)?;
-    seal_placed(alloc, root, rows, &places, &mut image)
+    seal_in_room(alloc, root, rows, &places)
 }

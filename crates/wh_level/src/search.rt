@@ -8,7 +8,7 @@ ghost use Rattle.wh_words.specs.Levels.{InLevel, IsLevel};
 ghost use Rattle.wh_expand.specs.Rows.{IsRow, row_tuple};
 ghost use Rattle.wh_level.specs.Trees.{AreParents};
 ghost use Rattle.wh_level.specs.Sealings.{IsMissed};
-ghost use Rattle.wh_level.specs.PlacedTuples.{IsPlacing, HasRoomsFor, KeepsRooms};
+ghost use Rattle.wh_level.specs.PlacedTuples.{IsPlacing, AreRowNumbers, HasRoomsFor, KeepsRooms};
 ghost use Rattle.wh_level.specs.Searches as spec;
 ghost use Rattle.wh_level.specs.Searches.{HasCells, GoesOver, IsAbsentImage};
 
@@ -113,6 +113,39 @@ impl Search {
     }
 }
 
+/// The parents of the tuples by their places, at which rows with these numbers stand.
+fn parents_by(
+    alloc: Global,
+    root: &Tuple,
+    rows: &[Row],
+    numbers: &[usize],
+    places: &TupleSet,
+    image: &mut Tuple,
+) -> Result<Option<Vec<Option<(usize, Move)>>>, OutOfMemory>
+    requires root { IsTuple root.now.plain }
+    requires rows { All IsRow rows.now }
+    requires placing { IsPlacing (map row_tuple rows.now) places.now }
+    requires numbers { AreRowNumbers (map row_tuple rows.now) places.now numbers.now }
+    requires within { All (InLevel root.now.plain) places.now }
+    requires rooms { HasRoomsFor image.old root.now.plain }
+    ensures parents { IfOk result (λ o. MatchOption o ((t : TupleData) × IsMissed root.now.plain places.now t) (λ p. IsLevel root.now.plain places.now × AreParents root.now.plain places.now p.items)) }
+    ensures rooms { KeepsRooms image.old image.new }
+{
+    let Some(start) = places.place(root) else {
+        return Ok(None);
+    };
+    let mut search = Search::start(alloc, places.len(), start)?;
+    let mut at = 0;
+    while let Some(from) = search.found(at) {
+        let number = numbers[from];
+        if !search.expand(places, from, &rows[number], image)? {
+            return Ok(None);
+        }
+        at += 1;
+    }
+    Ok(Some(search.into_parents()))
+}
+
 /// The parents of the tuples by their places, which are the whole level. None comes where they miss a tuple of it.
 pub(crate) fn first_parents(
     alloc: Global,
@@ -129,18 +162,6 @@ pub(crate) fn first_parents(
     ensures parents { IfOk result (λ o. MatchOption o ((t : TupleData) × IsMissed root.now.plain places.now t) (λ p. IsLevel root.now.plain places.now × AreParents root.now.plain places.now p.items)) }
     ensures rooms { KeepsRooms image.old image.new }
 {
-    let Some(start) = places.place(root) else {
-        return Ok(None);
-    };
     let numbers = row_numbers(alloc, rows, places)?;
-    let mut search = Search::start(alloc, places.len(), start)?;
-    let mut at = 0;
-    while let Some(from) = search.found(at) {
-        let number = numbers[from];
-        if !search.expand(places, from, &rows[number], image)? {
-            return Ok(None);
-        }
-        at += 1;
-    }
-    Ok(Some(search.into_parents()))
+    parents_by(alloc, root, rows, &numbers, places, image)
 }

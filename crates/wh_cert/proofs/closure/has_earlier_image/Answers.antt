@@ -1,5 +1,5 @@
 use Rattle.std.proofs.Common.{rules, arith, IsTrue}
-use Rattle.wh_graph.proofs.LevelMoves.{made_swap_level, made_invert_level}
+use Rattle.wh_graph.proofs.LevelMoves.{made_invert_level}
 use Rattle.wh_words.specs.Levels.{IsLevelMove}
 use Rattle.wh_cert.specs.Orbits.{IsPermutedIn, HasEarlierImage}
 use Rattle.wh_cert.proofs.JudgedOrbits.{leads_out}
@@ -7,26 +7,13 @@ use Rattle.wh_cert.proofs.closure.has_earlier_image.Goals as goal
 
 pub is_earlier-requires-clause-level : goal.is_earlier-requires-clause-level
 is_earlier-requires-clause-level c =
-    made_swap_level c.args.tuple.now.plain c.rank-rank.ensures.roomed.tuple c.rank-rank.result c.rank-rank.ensures.rank (omega (arith, c.rank-rank.ensures.rank, c.get-k-end.ensures.same, c.get-k-end.ensures.greatest)) c.unwrap.result c.loop-k.k
-    (search rules) (omega arith) (omega arith)
-
-pub is_earlier-requires-2-clause-level : goal.is_earlier-requires-2-clause-level
-is_earlier-requires-2-clause-level c =
-    made_invert_level c.args.tuple.now.plain c.rank-rank.ensures.roomed.tuple c.rank-rank.result c.rank-rank.ensures.rank (omega (arith, c.rank-rank.ensures.rank, c.get-k-end.ensures.same, c.get-k-end.ensures.greatest)) c.unwrap-2.result 1
-    (search rules) (omega arith) (omega (arith, c.get-k-end.ensures.least))
-
-pub returns-in_err-earlier-clause-earlier : goal.returns-in_err-earlier-clause-earlier
-returns-in_err-earlier-clause-earlier c =
-    let level : IsLevelMove c.args.tuple.now.plain c.unwrap.result =
-    made_swap_level c.args.tuple.now.plain c.rank-rank.ensures.roomed.tuple c.rank-rank.result c.rank-rank.ensures.rank (omega (arith, c.rank-rank.ensures.rank, c.get-k-end.ensures.same, c.get-k-end.ensures.greatest)) c.unwrap.result c.loop-k.k
-    (search rules) (omega arith) (omega arith) in
-    leads_out c.args.listed.now c.args.tuple.now.plain c.unwrap.result (λ b. IsPermutedIn c.args.listed.now c.args.tuple.now.plain × (IsTrue b → HasEarlierImage c.args.listed.now c.args.tuple.now.plain c.args.place)) c.from_residual.result level
-    c.in_err-earlier.ensures.earlier (search rules)
+    made_invert_level c.args.tuple.now.plain c.rank.ensures.roomed.tuple c.rank.result c.rank.ensures.rank (search rules) c.unwrap-first.result 1
+    (search rules) (omega arith) (search rules)
 
 pub returns-in_err-inverted-clause-earlier : goal.returns-in_err-inverted-clause-earlier
 returns-in_err-inverted-clause-earlier c =
-    let level : IsLevelMove c.args.tuple.now.plain c.unwrap-2.result =
-    made_invert_level c.args.tuple.now.plain c.rank-rank.ensures.roomed.tuple c.rank-rank.result c.rank-rank.ensures.rank (omega (arith, c.rank-rank.ensures.rank, c.get-k-end.ensures.same, c.get-k-end.ensures.greatest)) c.unwrap-2.result 1
-    (search rules) (omega arith) (omega (arith, c.get-k-end.ensures.least)) in
-    leads_out c.args.listed.now c.args.tuple.now.plain c.unwrap-2.result (λ b. IsPermutedIn c.args.listed.now c.args.tuple.now.plain × (IsTrue b → HasEarlierImage c.args.listed.now c.args.tuple.now.plain c.args.place)) c.from_residual-in_err-inverted.result level
+    let level : IsLevelMove c.args.tuple.now.plain c.unwrap-first.result =
+    made_invert_level c.args.tuple.now.plain c.rank.ensures.roomed.tuple c.rank.result c.rank.ensures.rank (search rules) c.unwrap-first.result 1
+    (search rules) (omega arith) (search rules) in
+    leads_out c.args.listed.now c.args.tuple.now.plain c.unwrap-first.result (λ b. IsPermutedIn c.args.listed.now c.args.tuple.now.plain × (IsTrue b → HasEarlierImage c.args.listed.now c.args.tuple.now.plain c.args.place)) c.from_residual-in_err-inverted.result level
     c.in_err-inverted.ensures.earlier (search rules)

@@ -1,7 +1,7 @@
 use Rattle.std.proofs.Common.{◌-◌, length}
 use Rattle.wh_level.specs.PlacedTuples.{KeepsRooms}
 use Rattle.wh_level.specs.Searches.{IsSearched}
-use Rattle.wh_level.proofs.search.first_parents.Given as goal
+use Rattle.wh_level.proofs.search.parents_by.Given as goal
 
 abbrev pub invariant-loop-from : goal.invariant-loop-from
 invariant-loop-from l = record {

@@ -1,4 +1,4 @@
-use Rattle.std.proofs.Common.{◌≡◌, ◌<◌, ◌≤◌, ◌∙◌, Some, slice_get, length, sym, ap, subst, arith, map}
+use Rattle.std.proofs.Common.{◌≡◌, ◌<◌, ◌≤◌, ◌∙◌, Some, slice_get, get_or, length, sym, ap, subst, arith, map}
 use Rattle.std.proofs.lemmas.Option.{slice_get_within}
 use Rattle.std.specs.List.Sorted.{IsStrictlySortedBy}
 use Rattle.wh_words.specs.Tuples.{TupleData, IsTuple, tuple_cmp}
@@ -6,11 +6,11 @@ use Rattle.wh_expand.specs.Rows.{row_tuple}
 use Rattle.wh_level.specs.PlacedTuples.{HasRoomsFor}
 use Rattle.wh_level.specs.Searches.{GoesOver, IsAbsentImage}
 use Rattle.wh_level.specs.Trees.{AreParents}
-use Rattle.wh_level.proofs.FirstParents.{past_from_none, started_at, next_within, next_tuple, cells_of, row_at, row_within, row_tuple_is, row_good, missed_root, missed_image, went_over}
+use Rattle.wh_level.proofs.FirstParents.{past_from_none, started_at, next_within, next_tuple, cells_of, row_within, row_tuple_is, row_good, missed_root, missed_image, went_over}
 use Rattle.wh_level.proofs.Rooms.{rooms_itself, rooms_then, rooms_kept, rooms_in_level}
 use Rattle.wh_level.proofs.SearchEnds.{AreAlone, same_places, level_exact, parents_whole}
 use Rattle.wh_moves.proofs.Walks.{reached_tuple}
-use Rattle.wh_level.proofs.search.first_parents.Goals as goal
+use Rattle.wh_level.proofs.search.parents_by.Goals as goal
 
 pub returns-in_default-clause-parents : goal.returns-in_default-clause-parents
 returns-in_default-clause-parents c = missed_root c.args.root.now.plain c.args.places.now c.in_default.ensures
@@ -25,40 +25,40 @@ loop-from-init c = record {
       c.len.ensures.len c.in-Some.ensures c.in_ok-search.ensures;
 }
 
-pub index-number-requires : goal.index-number-requires
-index-number-requires c =
+pub bounds-numbers-from : goal.bounds-numbers-from
+bounds-numbers-from c =
     let next = next_tuple c.loop-from.invariant.searched c.in-Some-found.from (sym c.found.ensures ∙ c.in-Some-found.is) in
-    omega (arith, c.in_ok-numbers.ensures.count, slice_get_within c.args.places.now c.in-Some-found.from next.0 next.1)
+    omega (arith, c.requires.numbers.count, slice_get_within c.args.places.now c.in-Some-found.from next.0 next.1)
 
 pub bounds-rows-number : goal.bounds-rows-number
 bounds-rows-number c =
     let next = next_tuple c.loop-from.invariant.searched c.in-Some-found.from (sym c.found.ensures ∙ c.in-Some-found.is) in
-    row_within c.args.rows.now c.index-number.result.now next.0 (row_at (map row_tuple c.args.rows.now) c.args.places.now c.in_ok-numbers.numbers.items c.in-Some-found.from c.index-number.result.now next.0 c.in_ok-numbers.ensures next.1 c.index-number.ensures)
+    row_within c.args.rows.now (get_or c.args.numbers.now c.in-Some-found.from 0) next.0 (c.requires.numbers.rows c.in-Some-found.from next.0 next.1)
 
 pub offset_bounds-rows-number : goal.offset_bounds-rows-number
 offset_bounds-rows-number c =
     let next = next_tuple c.loop-from.invariant.searched c.in-Some-found.from (sym c.found.ensures ∙ c.in-Some-found.is) in
-    let within : c.index-number.result.now < length c.args.rows.now =
-    row_within c.args.rows.now c.index-number.result.now next.0 (row_at (map row_tuple c.args.rows.now) c.args.places.now c.in_ok-numbers.numbers.items c.in-Some-found.from c.index-number.result.now next.0 c.in_ok-numbers.ensures next.1 c.index-number.ensures) in
+    let within : (get_or c.args.numbers.now c.in-Some-found.from 0) < length c.args.rows.now =
+    row_within c.args.rows.now (get_or c.args.numbers.now c.in-Some-found.from 0) next.0 (c.requires.numbers.rows c.in-Some-found.from next.0 next.1) in
     omega arith
 
 pub expand-requires-clause-row : goal.expand-requires-clause-row
 expand-requires-clause-row c =
     let next = next_tuple c.loop-from.invariant.searched c.in-Some-found.from (sym c.found.ensures ∙ c.in-Some-found.is) in
-    let at : slice_get (map row_tuple c.args.rows.now) c.index-number.result.now ≡ Some next.0 = row_at (map row_tuple c.args.rows.now) c.args.places.now c.in_ok-numbers.numbers.items c.in-Some-found.from c.index-number.result.now next.0 c.in_ok-numbers.ensures next.1 c.index-number.ensures in
-    row_good c.args.rows.now c.index-number.result.now c.index-rows-number.result c.requires.rows (row_within c.args.rows.now c.index-number.result.now next.0 at) c.index-rows-number.is
+    let at : slice_get (map row_tuple c.args.rows.now) (get_or c.args.numbers.now c.in-Some-found.from 0) ≡ Some next.0 = c.requires.numbers.rows c.in-Some-found.from next.0 next.1 in
+    row_good c.args.rows.now (get_or c.args.numbers.now c.in-Some-found.from 0) c.index-rows-number.result c.requires.rows (row_within c.args.rows.now (get_or c.args.numbers.now c.in-Some-found.from 0) next.0 at) c.index-rows-number.is
 
 pub expand-requires-clause-stands : goal.expand-requires-clause-stands
 expand-requires-clause-stands c =
     let next = next_tuple c.loop-from.invariant.searched c.in-Some-found.from (sym c.found.ensures ∙ c.in-Some-found.is) in
-    let at : slice_get (map row_tuple c.args.rows.now) c.index-number.result.now ≡ Some next.0 = row_at (map row_tuple c.args.rows.now) c.args.places.now c.in_ok-numbers.numbers.items c.in-Some-found.from c.index-number.result.now next.0 c.in_ok-numbers.ensures next.1 c.index-number.ensures in
-    next.1 ∙ ap Some (sym (row_tuple_is c.args.rows.now c.index-number.result.now next.0 c.index-rows-number.result at c.index-rows-number.is))
+    let at : slice_get (map row_tuple c.args.rows.now) (get_or c.args.numbers.now c.in-Some-found.from 0) ≡ Some next.0 = c.requires.numbers.rows c.in-Some-found.from next.0 next.1 in
+    next.1 ∙ ap Some (sym (row_tuple_is c.args.rows.now (get_or c.args.numbers.now c.in-Some-found.from 0) next.0 c.index-rows-number.result at c.index-rows-number.is))
 
 pub expand-requires-clause-rooms : goal.expand-requires-clause-rooms
 expand-requires-clause-rooms c =
     let next = next_tuple c.loop-from.invariant.searched c.in-Some-found.from (sym c.found.ensures ∙ c.in-Some-found.is) in
-    let at : slice_get (map row_tuple c.args.rows.now) c.index-number.result.now ≡ Some next.0 = row_at (map row_tuple c.args.rows.now) c.args.places.now c.in_ok-numbers.numbers.items c.in-Some-found.from c.index-number.result.now next.0 c.in_ok-numbers.ensures next.1 c.index-number.ensures in
-    subst (HasRoomsFor c.loop-from.image) (sym (row_tuple_is c.args.rows.now c.index-number.result.now next.0 c.index-rows-number.result at c.index-rows-number.is))
+    let at : slice_get (map row_tuple c.args.rows.now) (get_or c.args.numbers.now c.in-Some-found.from 0) ≡ Some next.0 = c.requires.numbers.rows c.in-Some-found.from next.0 next.1 in
+    subst (HasRoomsFor c.loop-from.image) (sym (row_tuple_is c.args.rows.now (get_or c.args.numbers.now c.in-Some-found.from 0) next.0 c.index-rows-number.result at c.index-rows-number.is))
     (rooms_kept c.loop-from.invariant.rooms (rooms_in_level c.requires.rooms next.2))
 
 pub expand-requires-clause-cells : goal.expand-requires-clause-cells
@@ -67,10 +67,10 @@ expand-requires-clause-cells c = cells_of c.loop-from.invariant.searched
 pub returns-then-not-branch-clause-parents : goal.returns-then-not-branch-clause-parents
 returns-then-not-branch-clause-parents c =
     let next = next_tuple c.loop-from.invariant.searched c.in-Some-found.from (sym c.found.ensures ∙ c.in-Some-found.is) in
-    let at : slice_get (map row_tuple c.args.rows.now) c.index-number.result.now ≡ Some next.0 = row_at (map row_tuple c.args.rows.now) c.args.places.now c.in_ok-numbers.numbers.items c.in-Some-found.from c.index-number.result.now next.0 c.in_ok-numbers.ensures next.1 c.index-number.ensures in
+    let at : slice_get (map row_tuple c.args.rows.now) (get_or c.args.numbers.now c.in-Some-found.from 0) ≡ Some next.0 = c.requires.numbers.rows c.in-Some-found.from next.0 next.1 in
     missed_image c.args.root.now.plain c.args.places.now c.in-Some-found.from (row_tuple c.index-rows-number.result)
     (GoesOver c.args.places.now c.in-Some-found.from c.loop-from.search c.expand.new.self) c.in_ok-expand.field-0
-    (next.1 ∙ ap Some (sym (row_tuple_is c.args.rows.now c.index-number.result.now next.0 c.index-rows-number.result at c.index-rows-number.is)))
+    (next.1 ∙ ap Some (sym (row_tuple_is c.args.rows.now (get_or c.args.numbers.now c.in-Some-found.from 0) next.0 c.index-rows-number.result at c.index-rows-number.is)))
     c.if-not-branch.true c.in_ok-expand.ensures.over
 
 pub overflow_add-at : goal.overflow_add-at
@@ -101,5 +101,5 @@ returns-clause-parents c =
 pub expand-requires-clause-tuple : goal.expand-requires-clause-tuple
 expand-requires-clause-tuple c =
     let next = next_tuple c.loop-from.invariant.searched c.in-Some-found.from (sym c.found.ensures ∙ c.in-Some-found.is) in
-    let at : slice_get (map row_tuple c.args.rows.now) c.index-number.result.now ≡ Some next.0 = row_at (map row_tuple c.args.rows.now) c.args.places.now c.in_ok-numbers.numbers.items c.in-Some-found.from c.index-number.result.now next.0 c.in_ok-numbers.ensures next.1 c.index-number.ensures in
-    subst IsTuple (sym (row_tuple_is c.args.rows.now c.index-number.result.now next.0 c.index-rows-number.result at c.index-rows-number.is)) (reached_tuple c.requires.root next.2.1)
+    let at : slice_get (map row_tuple c.args.rows.now) (get_or c.args.numbers.now c.in-Some-found.from 0) ≡ Some next.0 = c.requires.numbers.rows c.in-Some-found.from next.0 next.1 in
+    subst IsTuple (sym (row_tuple_is c.args.rows.now (get_or c.args.numbers.now c.in-Some-found.from 0) next.0 c.index-rows-number.result at c.index-rows-number.is)) (reached_tuple c.requires.root next.2.1)
