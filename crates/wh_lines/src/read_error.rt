@@ -124,7 +124,7 @@ fn number<W: Write>(f: &mut Formatter<W>, before: &str, n: u64, after: &str) -> 
 
 /// Writes two numbers that don't fit, each behind a text.
 fn unequal<W: Write>(f: &mut Formatter<W>, what: &str, n: u64, other: &str, m: u64) -> fmt::Result {
-    write!(f, "{what} {n} {other} {m}")
+    write!(f, "{what} {n}, {other} {m}")
 }
 
 // Both by hand: what a derived impl writes for all variants at once takes the checker long.
