@@ -1,8 +1,10 @@
 //! A run of the program.
-ghost use Rattle.std.specs.Prelude.{◌≡◌, List, None, Some, map};
+ghost use Rattle.std.specs.Prelude.{◌≡◌, ℕ, List, Option, None, Some, map};
 ghost use Rattle.clap.specs.Words.{Text};
+ghost use Rattle.wh_io.specs.Device.{Consumed};
 ghost use Rattle.whitehead.specs.Asked.{asked};
 ghost use Rattle.whitehead.specs.Endings.{Finished};
+ghost use Rattle.whitehead.specs.Streams.{IsWholeUpTo};
 ghost use Rattle.whitehead.specs.Outcome as spec;
 ghost use Rattle.whitehead.specs.Outcome.{RanTo, IsSilent, source_count, sink_count};
 
@@ -34,6 +36,19 @@ fn finish<K: Sink>(sink: &mut K, text: &[u8], status: Status) -> Status
     }
 }
 
+/// Writes the answer to the bytes that were read for what is asked, or their first refusal, to the sink.
+fn tell<K: Sink>(alloc: Global, arguments: Arguments, bytes: &[u8], sink: &mut K) -> Status
+    ensures ran { (words : List Text) (left left' : Option (List ℕ)) → asked words ≡ Some arguments → Consumed left left' bytes.now → IsWholeUpTo (spec.most_input arguments.task) bytes.now left' → RanTo words left left' (K.held sink.old) (K.held sink.new) (K.sent sink.new) result }
+    ensures read_faults { (count : ℕ) → source_count count result ≡ count }
+    ensures write_faults { K.fault_count sink.new ≡ sink_count (K.fault_count sink.old) result }
+    ensures unwritten { IsSilent result → sink.new ≡ sink.old }
+{
+    match reply_to(alloc, arguments.task, arguments.limit, bytes) {
+        Ok(reply) => finish(sink, reply.text.items(), reply.status),
+        Err(OutOfMemory) => Status::OutOfMemory,
+    }
+}
+
 /// Reads the whole source for what is asked, and writes the answer or the first refusal to the sink.
 fn run_on<S: Source, K: Sink>(
     alloc: Global,
@@ -46,14 +61,10 @@ fn run_on<S: Source, K: Sink>(
     ensures write_faults { K.fault_count sink.new ≡ sink_count (K.fault_count sink.old) result }
     ensures unwritten { IsSilent result → sink.new ≡ sink.old }
 {
-    let bytes = match read_all(alloc, source, most_input(arguments.task)) {
-        Ok(bytes) => bytes,
-        Err(InputError::Fault) => return Status::ReadFault,
-        Err(InputError::OutOfMemory) => return Status::OutOfMemory,
-    };
-    match reply_to(alloc, arguments.task, arguments.limit, &bytes) {
-        Ok(reply) => finish(sink, reply.text.items(), reply.status),
-        Err(OutOfMemory) => Status::OutOfMemory,
+    match read_all(alloc, source, most_input(arguments.task)) {
+        Ok(bytes) => tell(alloc, arguments, &bytes, sink),
+        Err(InputError::Fault) => Status::ReadFault,
+        Err(InputError::OutOfMemory) => Status::OutOfMemory,
     }
 }
 
