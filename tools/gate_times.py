@@ -1,9 +1,9 @@
 #!/usr/bin/env python3
 """Tells where the time of the gate goes: gate_times.py [COMMAND..]
 
-Runs the command, which is `rt ci` where none is given, and looks twice a second at the processes of the checker below it.
-At the end it prints, for each crate, the seconds from the first to the last process and the processor seconds of its
-proof, of its tests and of its must-fail edits, and then the sums. It ends with the command's status.
+Runs the command, which is `rt ci` where none is given, and looks twice a second at the processes of the checker that it
+starts. At the end it prints, for each crate, the seconds from the first to the last process and the processor seconds of
+its proof, of its tests and of its must-fail edits, and then the sums. It ends with the command's status.
 """
 
 import os
@@ -24,15 +24,36 @@ def kind_of(words, folder):
     return "tests" if "--test" in words else "proof"
 
 
+def fields_of(place):
+    """The fields of a process behind its name: its state, its parent, and further on its times."""
+    return (place / "stat").read_text().rsplit(")", 1)[1].split()
+
+
+def own_processes():
+    """The folders of the processes below this one, so that nothing is counted that others run meanwhile."""
+    parents = {}
+    for place in pathlib.Path("/proc").glob("[0-9]*"):
+        try:
+            parents[int(place.name)] = int(fields_of(place)[1])
+        except (OSError, IndexError, ValueError):
+            continue
+    for process in parents:
+        above = process
+        while above in parents and above != os.getpid():
+            above = parents[above]
+        if above == os.getpid() and process != above:
+            yield pathlib.Path("/proc", str(process))
+
+
 def checkers():
     """The processes of the checker: what names each, the crate, what it does, and its processor seconds so far."""
-    for place in pathlib.Path("/proc").glob("[0-9]*"):
+    for place in own_processes():
         try:
             words = (place / "cmdline").read_bytes().decode().split("\0")
             if os.path.basename(words[0]) != "rattle" or "--crate-name" not in words:
                 continue
             crate = words[words.index("--crate-name") + 1]
-            fields = (place / "stat").read_text().rsplit(")", 1)[1].split()
+            fields = fields_of(place)
             key = (place.name, fields[19])
             seconds = sum(map(int, fields[11:15])) / TICKS
             yield key, crate, kind_of(words, os.readlink(place / "cwd")), seconds
