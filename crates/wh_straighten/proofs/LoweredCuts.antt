@@ -1,5 +1,5 @@
 -- Round a peak of two cuts, by way of the cut of a quadrant.
-use Rattle.std.proofs.Common.{◌≡◌, ℕ, ◌+◌, ◌*◌, ◌^◌, ◌<◌, ◌≤◌, List, [], ◌∷◌, ◌++◌, refl, sym, ap, ap₂, subst, inl, inr, ◌∙◌, arith}
+use Rattle.std.proofs.Common.{◌≡◌, ℕ, ◌+◌, ◌*◌, ◌^◌, ◌<◌, ◌≤◌, List, [], ◌∷◌, ◌++◌, refl, sym, ap, ap₂, subst, inl, inr, ◌∙◌, arith, bit_and}
 use Rattle.std.proofs.lemmas.Bool.{cases_lt, cases_Bool, false≢true}
 use Rattle.std.proofs.lemmas.Nat.Bits.{bit_at_above}
 use Rattle.std.specs.Prelude.{Bool, true, false, cond, not, ◌&&◌, ◌⊎◌, ◌↔◌, IsTrue}
@@ -30,7 +30,7 @@ use Rattle.wh_peak.proofs.SameComposites.{agree-refl}
 use Rattle.wh_peak.proofs.ConjugatingWords.{IsConjugate}
 use Rattle.wh_peak.proofs.AlikeMoves.{conjugate-same, conjugate-sym, conjugate-alike, alike_act_alike}
 use Rattle.wh_straighten.proofs.LoweredMoves.{lowered_by_way, lowered_from, lowered_to, complement-conjugate}
-use Rattle.wh_straighten.proofs.LoweredRows.{mask-is, none_of, cut_law}
+use Rattle.wh_straighten.proofs.LoweredRows.{and_has, mask-is, none_of, cut_law}
 
 -- ---- the side of a cut
 -- (B, b) is (A, a) where this cut omits c, and else the cut of the complement at the inverse of a.
@@ -118,6 +118,28 @@ module _ (t : TupleData) (is : IsTuple t) (low : t.rank ≤ 26) (a b A B : ℕ) 
       (lowered_to t (cut_move t.rank a2 A2) (cut_move t.rank b B) (cut_move t.rank b2 B2) (ms ++ ns) is ha2 hb hb2
       (conjugate-sym t.rank (cut_move t.rank b B ∷ []) (cut_move t.rank b2 B2 ∷ []) (side-conjugate t.rank c b B b2 B2 v far))
       (lowered_by_way t (cut_move t.rank a2 A2) (cut_move t.rank c Q) (cut_move t.rank b2 B2) ms ns ha2 hc hb2 p q s.shortens)))
+
+-- ---- sides that are disjoint
+pub apart_from_bits : (A B : ℕ) → bit_and A B ≡ 0 → AreDisjoint A B
+apart_from_bits A B e x = sym (and_has A B x) ∙ (ap (λ (z : ℕ). in_set z x) e ∙ omits 0 x (bit_at_above 0 0 x (omega arith) (omega arith)))
+
+module _ (t : TupleData) (is : IsTuple t) (low : t.rank ≤ 26) (a b A B : ℕ) (u : IsCut t.rank a A) (v : IsCut t.rank b B) (peak : IsPeak t (cut_move t.rank a A) (cut_move t.rank b B))
+    (c a2 A2 b2 B2 : ℕ) (near : IsSideWithout t.rank c a A a2 A2) (far : IsSideWithout t.rank c b B b2 B2) where
+  pub sides_peak : IsPeak t (cut_move t.rank a2 A2) (cut_move t.rank b2 B2)
+  sides_peak =
+      let e : tuple_length (act t (cut_move t.rank a A)) ≡ tuple_length (act t (cut_move t.rank a2 A2)) = ap tuple_length (side-acts t is low c a A a2 A2 u near) in
+      let f : tuple_length (act t (cut_move t.rank b B)) ≡ tuple_length (act t (cut_move t.rank b2 B2)) = ap tuple_length (side-acts t is low c b B b2 B2 v far) in
+      record { left = omega (arith, e, peak.left); right = omega (arith, f, peak.right); falls = omega (arith, e, f, peak.falls) }
+
+  pub lowered_by_sides : (way : List Move) → IsLowered t (cut_move t.rank a2 A2) (cut_move t.rank b2 B2) way → IsLowered t (cut_move t.rank a A) (cut_move t.rank b B) way
+  lowered_by_sides way p =
+      let ha : IsMoveOfRank t.rank (cut_move t.rank a A) = move_of_rank t.rank (cut a A) low u in
+      let hb : IsMoveOfRank t.rank (cut_move t.rank b B) = move_of_rank t.rank (cut b B) low v in
+      let ha2 : IsMoveOfRank t.rank (cut_move t.rank a2 A2) = move_of_rank t.rank (cut a2 A2) low near.cut in
+      let hb2 : IsMoveOfRank t.rank (cut_move t.rank b2 B2) = move_of_rank t.rank (cut b2 B2) low far.cut in
+      lowered_from t (cut_move t.rank a A) (cut_move t.rank a2 A2) (cut_move t.rank b B) way is ha ha2 hb (side-conjugate t.rank c a A a2 A2 u near)
+      (lowered_to t (cut_move t.rank a2 A2) (cut_move t.rank b B) (cut_move t.rank b2 B2) way is ha2 hb hb2
+      (conjugate-sym t.rank (cut_move t.rank b B ∷ []) (cut_move t.rank b2 B2 ∷ []) (side-conjugate t.rank c b B b2 B2 v far)) p)
 
 -- The side as the program makes it.
 pub side_made : (r n c a A b B : ℕ) → r ≡ n → IsCut n a A → (in_set A c ≡ false → b ≡ a) → (in_set A c ≡ true → b ≡ inverse_letter a) → (in_set A c ≡ false → B ≡ A) →

@@ -1,5 +1,5 @@
 //! A way round a peak of any two cuts, by way of the cut of a quadrant.
-ghost use Rattle.std.specs.Prelude.{◌≡◌, ℕ, ◌+◌, ◌*◌, ◌^◌, ◌<◌, ◌≤◌, true, false, not, ◌⊎◌, ◌↔◌, IsTrue, length, IfOk};
+ghost use Rattle.std.specs.Prelude.{◌≡◌, ℕ, ◌+◌, ◌*◌, ◌^◌, ◌<◌, ◌≤◌, true, false, not, ◌⊎◌, ◌↔◌, IsTrue, length, IfOk, IfSome};
 ghost use Rattle.wh_words.specs.Limits.{most_rank};
 ghost use Rattle.wh_words.specs.Letters.{inverse_letter};
 ghost use Rattle.wh_words.specs.LetterSets.{in_set};
@@ -115,8 +115,38 @@ fn serving_letter(
     second_mult.inverse()
 }
 
+/// The way round a peak of two cuts between their sides without a letter, where the sets of these are disjoint.
+fn way_without(
+    alloc: Global,
+    top: &Tuple,
+    first_mult: Letter,
+    first_set: LetterSet,
+    second_mult: Letter,
+    second_set: LetterSet,
+    letter: Letter,
+) -> Result<Option<Vec<Move>>, OutOfMemory>
+    requires first { IsCut top.now.plain.rank first_mult first_set }
+    requires second { IsCut top.now.plain.rank second_mult second_set }
+    requires peak { IsPeak top.now.plain (spec.cut_move top.now.plain.rank first_mult first_set) (spec.cut_move top.now.plain.rank second_mult second_set) }
+    ensures lowered { IfOk result (λ o. IfSome o (λ v. IsLowered top.now.plain (spec.cut_move top.now.plain.rank first_mult first_set) (spec.cut_move top.now.plain.rank second_mult second_set) v.items)) }
+    ensures few { IfOk result (λ o. IfSome o (λ v. length v.items ≤ top.now.plain.rank * top.now.plain.rank + top.now.plain.rank + 2)) }
+{
+    let rank = top.rank();
+    // The rank is at most 26, which the proof takes from this call.
+    rank.get();
+    let near = side_mult(first_mult, first_set, letter);
+    let near_set = side_set(rank, first_set, letter);
+    let far = side_mult(second_mult, second_set, letter);
+    let far_set = side_set(rank, second_set, letter);
+    if near_set.bits() & far_set.bits() != 0 {
+        return Ok(None);
+    }
+    let way = disjoint_way(alloc, top, near, near_set, far, far_set)?;
+    Ok(Some(way))
+}
+
 /// A way round a peak of two cuts, by way of the tuple after a cut of a quadrant.
-pub(crate) fn lower_cuts(
+fn way_by_quadrant(
     alloc: Global,
     top: &Tuple,
     first_mult: Letter,
@@ -140,4 +170,41 @@ pub(crate) fn lower_cuts(
     let mut way = disjoint_way(alloc, top, near, near_set, mult, set)?;
     way.extend_from_slice(&disjoint_way(alloc, top, mult, set, far, far_set)?)?;
     Ok(way)
+}
+
+/// A way round a peak of two cuts. Where they have disjoint sides without one of their letters it lies between these, which
+/// makes it half as long as a way by a quadrant.
+pub(crate) fn lower_cuts(
+    alloc: Global,
+    top: &Tuple,
+    first_mult: Letter,
+    first_set: LetterSet,
+    second_mult: Letter,
+    second_set: LetterSet,
+) -> Result<Vec<Move>, OutOfMemory>
+    requires first { IsCut top.now.plain.rank first_mult first_set }
+    requires second { IsCut top.now.plain.rank second_mult second_set }
+    requires peak { IsPeak top.now.plain (spec.cut_move top.now.plain.rank first_mult first_set) (spec.cut_move top.now.plain.rank second_mult second_set) }
+    ensures lowered { IfOk result (λ v. IsLowered top.now.plain (spec.cut_move top.now.plain.rank first_mult first_set) (spec.cut_move top.now.plain.rank second_mult second_set) v.items) }
+    ensures few { IfOk result (λ v. length v.items ≤ 2 * (top.now.plain.rank * top.now.plain.rank + top.now.plain.rank + 2)) }
+{
+    for letter in [
+        first_mult,
+        first_mult.inverse(),
+        second_mult,
+        second_mult.inverse(),
+    ] {
+        if let Some(way) = way_without(
+            alloc,
+            top,
+            first_mult,
+            first_set,
+            second_mult,
+            second_set,
+            letter,
+        )? {
+            return Ok(way);
+        }
+    }
+    way_by_quadrant(alloc, top, first_mult, first_set, second_mult, second_set)
 }

@@ -1,7 +1,7 @@
 use Rattle.std.proofs.Common.{◌≡◌, ℕ, ◌++◌, subst, arith, rules}
 use Rattle.wh_straighten.specs.Lowering.{IsQuadrant}
 use Rattle.wh_straighten.proofs.LoweredCuts.{side_made, near_apart, far_apart, near_peak, far_peak, lowered_by_quadrant}
-use Rattle.wh_straighten.proofs.any_cuts.lower_cuts.Goals as goal
+use Rattle.wh_straighten.proofs.any_cuts.way_by_quadrant.Goals as goal
 
 pub disjoint_way-requires-clause-first : goal.disjoint_way-requires-clause-first
 disjoint_way-requires-clause-first c =
