@@ -15,8 +15,10 @@ use Rattle.wh_peak.proofs.FreeWords.{ReducedWord, run, run-append, Same, inverse
 use Rattle.wh_peak.proofs.ActionFacts.{normal, normal-same, normal-conjugate}
 use Rattle.wh_peak.proofs.KindLists.{substitute_kinds, map_rank, act_kinds-are, one_letter}
 use Rattle.wh_peak.proofs.MovesOfRank.{kinds, are_kinds, acted, substituted, cyclic_words, words_of_rank}
-use Rattle.wh_peak.proofs.ConjugatingWords.{inverse_word-is, IsConjugate, three_parts, conjugate_back}
-use Rattle.wh_peak.proofs.SameComposites.{substitute-append, substitute-then, substitute-nothing, substitute-of_rank, substitute-same, substitute-inverse_of, AgreeOn, agree-refl, list-undone, list-redone, composite-same, same-composite}
+use Rattle.wh_peak.proofs.AlikeLists.{three_parts}
+use Rattle.wh_composites.proofs.SignedPerms.{substitute_all-then}
+use Rattle.wh_peak.proofs.ConjugatingWords.{inverse_word-is, IsConjugate, conjugate_back}
+use Rattle.wh_peak.proofs.SameComposites.{substitute-append, substitute-nothing, substitute-of_rank, substitute-same, substitute-inverse_of, AgreeOn, agree-refl, list-undone, list-redone, composite-same, same-composite}
 use Rattle.wh_graph.proofs.ComplementCuts.{generator_of}
 
 pub inverse_of-of_rank : (n : ℕ) (w : List ℕ) → IsOfRank n w → IsOfRank n (inverse_of w)
@@ -70,9 +72,9 @@ conjugate-before n ps ms ns h c = record {
   by = c.by;
   of_rank = c.of_rank;
   at = λ x l r.
-      ap (λ w. run w r) (substitute-then ps ms (x ∷ []))
+      ap (λ w. run w r) (substitute_all-then ps ms (x ∷ []))
       ∙ (conjugate-words n ms ns c (substitute_all ps (x ∷ [])) (substitute-of_rank n ps h (x ∷ []) (one_letter n x l)) r
-      ∙ ap (λ w. run (inverse_of c.by ++ (w ++ c.by)) r) (sym (substitute-then ps ns (x ∷ []))));
+      ∙ ap (λ w. run (inverse_of c.by ++ (w ++ c.by)) r) (sym (substitute_all-then ps ns (x ∷ []))));
 }
 
 pub conjugate-after : (n : ℕ) (ms ns ps : List Move) → AreMovesOfRank n ps → IsConjugate n ms ns → IsConjugate n (ms ++ ps) (ns ++ ps)
@@ -80,12 +82,12 @@ conjugate-after n ms ns ps h c = record {
   by = substitute_all ps c.by;
   of_rank = substitute-of_rank n ps h c.by c.of_rank;
   at = λ x l r.
-      ap (λ w. run w r) (substitute-then ms ps (x ∷ []))
+      ap (λ w. run w r) (substitute_all-then ms ps (x ∷ []))
       ∙ (substitute-same n ps h (substitute_all ms (x ∷ [])) (inverse_of c.by ++ (substitute_all ns (x ∷ []) ++ c.by)) (c.at x l) r
       ∙ (ap (λ w. run w r) (substitute-append ps (inverse_of c.by) (substitute_all ns (x ∷ []) ++ c.by))
       ∙ (run-append (substitute_all ps (inverse_of c.by)) (substitute_all ps (substitute_all ns (x ∷ []) ++ c.by)) r
       ∙ (substitute-inverse_of n ps h c.by (run (substitute_all ps (substitute_all ns (x ∷ []) ++ c.by)) r)
-      ∙ (ap (λ w. run (inverse_of (substitute_all ps c.by)) (run w r)) (substitute-append ps (substitute_all ns (x ∷ [])) c.by ∙ ap (λ w. w ++ substitute_all ps c.by) (sym (substitute-then ns ps (x ∷ []))))
+      ∙ (ap (λ w. run (inverse_of (substitute_all ps c.by)) (run w r)) (substitute-append ps (substitute_all ns (x ∷ [])) c.by ∙ ap (λ w. w ++ substitute_all ps c.by) (sym (substitute_all-then ns ps (x ∷ []))))
       ∙ sym (run-append (inverse_of (substitute_all ps c.by)) (substitute_all (ns ++ ps) (x ∷ []) ++ substitute_all ps c.by) r))))));
 }
 

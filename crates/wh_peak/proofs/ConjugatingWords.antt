@@ -14,8 +14,9 @@ use Rattle.wh_words.proofs.LetterMaps.{inverse_below}
 use Rattle.wh_peak.specs.Equivalence.{AreMovesOfRank}
 use Rattle.wh_words.specs.Composites.{substitute_all}
 use Rattle.wh_peak.specs.Automorphisms.{AreAlike}
-use Rattle.wh_peak.proofs.FreeWords.{ReducedWord, cancel_left, run, run-append, Same, inverse_of, run-inverse_left, red_of, run-inverse_right}
+use Rattle.wh_peak.proofs.FreeWords.{cancel_left, run, run-append, Same, inverse_of, run-inverse_left, red_of, run-inverse_right}
 use Rattle.wh_peak.proofs.Substitutions.{Substitution, flat_map-same, substitute_by, substitute_by-inverse_of}
+use Rattle.wh_peak.proofs.AlikeLists.{three_parts}
 use Rattle.wh_peak.proofs.KindLists.{substitute_kinds, substitute_kinds-of_rank, one_letter}
 use Rattle.wh_peak.proofs.LoweredKinds.{AlikeOn}
 use Rattle.wh_peak.proofs.MovesOfRank.{kinds, are_kinds, substituted}
@@ -101,9 +102,6 @@ pub record IsConjugate (n : ℕ) (ms ns : List Move) : Type 0 where
   pub by : List ℕ
   pub of_rank : IsOfRank n by
   pub at : (x : ℕ) → x < 2 * n → Same (substitute_all ms (x ∷ [])) (inverse_of by ++ (substitute_all ns (x ∷ []) ++ by))
-
-pub three_parts : (g u : List ℕ) (r : ReducedWord) → run (inverse_of g ++ (u ++ g)) r ≡ run (inverse_of g) (run u (run g r))
-three_parts g u r = run-append (inverse_of g) (u ++ g) r ∙ ap (run (inverse_of g)) (run-append u g r)
 
 pub conjugate_back : (u v g : List ℕ) → Same v (inverse_of g ++ (u ++ g)) → Same u (inverse_of (inverse_of g) ++ (v ++ inverse_of g))
 conjugate_back u v g h r =

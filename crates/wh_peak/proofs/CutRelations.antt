@@ -14,6 +14,7 @@ use Rattle.wh_moves.proofs.InverseMoves.{turned_other, turned_within, inverse_is
 use Rattle.wh_graph.specs.Laws.{is_of}
 use Rattle.wh_graph.proofs.SetNumbers.{holds, omits}
 use Rattle.wh_words.proofs.LetterMaps.{inverse_below}
+use Rattle.wh_composites.proofs.SignedPerms.{substitute_all-then}
 use Rattle.wh_peak.specs.Equivalence.{AreMovesOfRank}
 use Rattle.wh_words.specs.Composites.{substitute_all}
 use Rattle.wh_words.specs.Moves.Kind.{cut}
@@ -35,7 +36,7 @@ use Rattle.wh_words.proofs.LetterMaps.{swap_back, invert_back}
 use Rattle.wh_peak.proofs.KindSteps.{turned_is, substitute-back}
 use Rattle.wh_peak.proofs.MapsPastCuts.{past}
 use Rattle.wh_peak.proofs.MovesOfRank.{move_of_rank, none_of_rank, more_of_rank}
-use Rattle.wh_peak.proofs.SameComposites.{substitute-append, substitute-then, substitute-nothing, substitute-of_rank, substitute-same, composite-same}
+use Rattle.wh_peak.proofs.SameComposites.{substitute-append, substitute-nothing, substitute-of_rank, substitute-same, composite-same}
 use Rattle.wh_peak.proofs.Represented.{AllDo, done, trivial-by, does-cut, does-back, does-swap, does-invert, own-letters, cancelled}
 use Rattle.wh_peak.proofs.KindLists.{one_letter}
 use Rattle.wh_words.proofs.Mapped.{swap_turns, invert_turns}
@@ -196,7 +197,7 @@ cuts_exchange n a b A ps low u v ne hp maps =
         let w : List ℕ = substitute_all (cut_move n a A ∷ cut_move n b (turned_set a A) ∷ []) (x ∷ []) in
         let hw : IsOfRank n (substitute_all (cut_move n a A ∷ cut_move n b (turned_set a A) ∷ []) (x ∷ [])) =
         substitute-of_rank n (cut_move n a A ∷ cut_move n b (turned_set a A) ∷ []) htwo (x ∷ []) (one_letter n x l) in
-        ap (λ v. run v r) (substitute-then ps (cut_back n b A ∷ []) w)
+        ap (λ v. run v r) (substitute_all-then ps (cut_back n b A ∷ []) w)
         ∙ (substitute-same n (cut_back n b A ∷ []) hlast (substitute_all ps w) (flat_map (λ y. carry a b y ∷ []) w) (mapped-word n ps (carry a b) maps w hw) r
         ∙ ap (λ z. run z r) (substitute-back n (cut b A) v (flat_map (λ y. carry a b y ∷ []) w)
         ∙ ap (λ z. flat_map (undo b (in_set A)).of (flat_map (λ y. carry a b y ∷ []) z)) (done n (cut_move n a A ∷ cut_move n b (turned_set a A) ∷ []) (cutting a (in_set A) ∷ cutting b (turned a (in_set A)) ∷ []) first (x ∷ [])

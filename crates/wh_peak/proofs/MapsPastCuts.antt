@@ -9,7 +9,8 @@ use Rattle.wh_peak.proofs.Substitutions.{Substitution}
 use Rattle.wh_peak.proofs.EqualComposites.{Agree, Agree-sym, move_left, move_right}
 use Rattle.wh_peak.proofs.AlikeLists.{Alike, Alike-agree, Alike-sym}
 use Rattle.wh_peak.proofs.CutForms.{cut_letter, IsCut, is-cases, turned}
-use Rattle.wh_peak.proofs.CutSubstitutions.{Agree-two_two, is-self, is-other, cut_letter-at, cut_letter-off, cutting, letters}
+use Rattle.wh_peak.proofs.ConjugatedCuts.{is-self, is-other}
+use Rattle.wh_peak.proofs.CutSubstitutions.{Agree-two_two, cut_letter-at, cut_letter-off, cutting, letters}
 use Rattle.wh_peak.proofs.CutsOfOneGenerator.{turned-cut, undo, undo-inverse}
 use Rattle.wh_peak.proofs.CarriedLetters.{letters-inverse}
 use Rattle.wh_peak.proofs.Actions.{act1, acts, AreCyclic, act1-cyclic, alike_acts, agreeing_acts, inverse_acts}

@@ -1,4 +1,4 @@
-use Rattle.std.proofs.Common.{◌≡◌, arith, rules, bit_and}
+use Rattle.std.proofs.Common.{arith, rules}
 use Rattle.wh_straighten.proofs.LoweredCuts.{side_made, apart_from_bits, sides_peak, lowered_by_sides}
 use Rattle.wh_straighten.proofs.any_cuts.way_without.Goals as goal
 
