@@ -1,17 +1,21 @@
 //! Permutations of letters that commute with inverting.
 ghost use Rattle.std.specs.Prelude.{◌≡◌, ◌≢◌, ℕ, ◌*◌, ◌/◌, ◌%◌, ◌<◌, ◌==◌, cond, length, get_or};
+ghost use Rattle.wh_words.specs.Limits.{most_rank};
 ghost use Rattle.wh_words.specs.Letters.{inverse_letter};
 ghost use Rattle.wh_composites.specs.SignedPerms.{IsSignedPerm, letter_image, carry};
 
 use std::marker::Model;
-use wh_words::{Letter, Rank};
+use wh_words::{Letter, MOST_RANK, Rank};
+
+/// How many generators there are at most.
+const GENERATORS: usize = MOST_RANK as usize;
 
 /// Swaps and inversions in full: a permutation of the letters of a rank that takes inverse letters to inverse letters.
 /// Contracts see the rank and the list of the images of the generators. It takes no memory.
 #[derive(Debug, Drop)]
 pub struct SignedPerm {
     rank: Rank,
-    images: [Letter; 26],
+    images: [Letter; GENERATORS],
 }
 
 impl Model for SignedPerm {
@@ -26,13 +30,13 @@ impl Model for SignedPerm {
     ghost invariant = { λ p. IsSignedPerm (record { rank = p.rank; images = take p.rank p.images }) };
 }
 
-/// The letters of 26 generators.
-fn generators() -> [Letter; 26]
-    ensures letters { (g : ℕ) → g < 26 → get_or result g 0 ≡ 2 * g }
-    ensures count { length result ≡ 26 }
+/// The letters of all generators.
+fn generators() -> [Letter; GENERATORS]
+    ensures letters { (g : ℕ) → g < most_rank → get_or result g 0 ≡ 2 * g }
+    ensures count { length result ≡ most_rank }
 {
-    let mut letters = [Letter::default(); 26];
-    for g in 0..26 {
+    let mut letters = [Letter::default(); GENERATORS];
+    for g in 0..GENERATORS {
         letters[g] = Letter::of_index(2 * g as u8);
     }
     letters

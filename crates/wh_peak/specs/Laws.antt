@@ -1,5 +1,6 @@
 -- What peak reduction shows, as statements that contracts name, after Whitehead 1936, and Lyndon and Schupp, I.4.
 use Rattle.std.specs.Prelude.{◌≡◌, ◌≢◌, ◌+◌, ◌<◌, ◌≤◌, List, ◌↔◌, ℕ, [], ◌++◌, length, take}
+use Rattle.wh_words.specs.Limits.{most_rank}
 use Rattle.wh_words.specs.Tuples.{TupleData, IsTuple, tuple_length}
 use Rattle.wh_words.specs.Moves.{Move}
 use Rattle.wh_words.specs.MoveLists.{inverse_list}
@@ -65,7 +66,7 @@ PeaksCanBeLowered = (top : TupleData) (left right : Move) → IsTuple top → Is
 
 -- Each list of moves has a straight one that is alike to it and has the same end.
 abbrev pub ListsCanBeStraightened : Type 0
-ListsCanBeStraightened = (t : TupleData) (ms : List Move) → IsTuple t → t.rank ≤ 26 → AreMovesOfRank t.rank ms → (ns : List Move) × IsStraightened t ms ns
+ListsCanBeStraightened = (t : TupleData) (ms : List Move) → IsTuple t → t.rank ≤ most_rank → AreMovesOfRank t.rank ms → (ns : List Move) × IsStraightened t ms ns
 
 -- ---- straight ways
 -- On a straight way no tuple is longer than both ends.
@@ -74,38 +75,38 @@ StraightWaysStayLow = (t : TupleData) (ms : List Move) → IsStraight t ms → (
 
 -- Between flat tuples all tuples on a straight way have one length.
 abbrev pub StraightWaysBetweenFlatStay : Type 0
-StraightWaysBetweenFlatStay = (t : TupleData) (ms : List Move) → IsTuple t → t.rank ≤ 26 → AreMovesOfRank t.rank ms → IsFlat t → IsFlat (act_all t ms) → IsStraight t ms → (k : ℕ) → k ≤ length ms → tuple_length (act_all t (take k ms)) ≡ tuple_length t
+StraightWaysBetweenFlatStay = (t : TupleData) (ms : List Move) → IsTuple t → t.rank ≤ most_rank → AreMovesOfRank t.rank ms → IsFlat t → IsFlat (act_all t ms) → IsStraight t ms → (k : ℕ) → k ≤ length ms → tuple_length (act_all t (take k ms)) ≡ tuple_length t
 
 -- ---- shortest tuples
 -- A tuple that no cut shortens is shortest, and the other way round.
 abbrev pub FlatIsShortest : Type 0
-FlatIsShortest = (t : TupleData) → IsTuple t → t.rank ≤ 26 → IsFlat t ↔ IsShortest t
+FlatIsShortest = (t : TupleData) → IsTuple t → t.rank ≤ most_rank → IsFlat t ↔ IsShortest t
 
 -- The same by capacities.
 abbrev pub TightIsShortest : Type 0
-TightIsShortest = (t : TupleData) → IsTuple t → t.rank ≤ 26 → IsFlatByCapacities t ↔ IsShortest t
+TightIsShortest = (t : TupleData) → IsTuple t → t.rank ≤ most_rank → IsFlatByCapacities t ↔ IsShortest t
 
 -- Of two shortest tuples that are equivalent each is in the level of the other.
 abbrev pub ShortestShareALevel : Type 0
-ShortestShareALevel = (t u : TupleData) → IsTuple t → t.rank ≤ 26 → IsFlat t → IsFlat u → AreEquivalent t u → InLevel t u
+ShortestShareALevel = (t u : TupleData) → IsTuple t → t.rank ≤ most_rank → IsFlat t → IsFlat u → AreEquivalent t u → InLevel t u
 
 -- ---- what tells that tuples aren't equivalent
 -- Two tuples are equivalent exactly where flat tuples that they are equivalent to share a level.
 abbrev pub FlatEndsTell : Type 0
-FlatEndsTell = (s t u v : TupleData) → IsTuple s → IsTuple t → s.rank ≡ t.rank → s.rank ≤ 26 → AreEquivalent s u → AreEquivalent t v → IsFlat u → IsFlat v → AreEquivalent s t ↔ InLevel u v
+FlatEndsTell = (s t u v : TupleData) → IsTuple s → IsTuple t → s.rank ≡ t.rank → s.rank ≤ most_rank → AreEquivalent s u → AreEquivalent t v → IsFlat u → IsFlat v → AreEquivalent s t ↔ InLevel u v
 
 -- Two tuples are equivalent exactly where the ends of their traces share a level.
 abbrev pub TraceEndsTell : Type 0
-TraceEndsTell = (s t u v : TupleData) (ms ns : List Move) → IsTuple s → IsTuple t → s.rank ≡ t.rank → s.rank ≤ 26 → IsCapacityTrace s ms u → IsCapacityTrace t ns v → AreEquivalent s t ↔ InLevel u v
+TraceEndsTell = (s t u v : TupleData) (ms ns : List Move) → IsTuple s → IsTuple t → s.rank ≡ t.rank → s.rank ≤ most_rank → IsCapacityTrace s ms u → IsCapacityTrace t ns v → AreEquivalent s t ↔ InLevel u v
 
 -- A no by lengths is true: tuples whose traces end at tuples of different lengths aren't equivalent.
 abbrev pub OtherLengthsTellApart : Type 0
-OtherLengthsTellApart = (s t u v : TupleData) (ms ns : List Move) → IsTuple s → IsTuple t → s.rank ≡ t.rank → s.rank ≤ 26 → IsCapacityTrace s ms u → IsCapacityTrace t ns v →
+OtherLengthsTellApart = (s t u v : TupleData) (ms ns : List Move) → IsTuple s → IsTuple t → s.rank ≡ t.rank → s.rank ≤ most_rank → IsCapacityTrace s ms u → IsCapacityTrace t ns v →
     tuple_length u ≢ tuple_length v → ¬ (AreEquivalent s t)
 
 -- A no by a level is true: tuples aren't equivalent where the end of the second trace isn't in the level of the end of the first.
 abbrev pub OtherLevelsTellApart : Type 0
-OtherLevelsTellApart = (s t u v : TupleData) (ms ns : List Move) → IsTuple s → IsTuple t → s.rank ≡ t.rank → s.rank ≤ 26 → IsCapacityTrace s ms u → IsCapacityTrace t ns v →
+OtherLevelsTellApart = (s t u v : TupleData) (ms ns : List Move) → IsTuple s → IsTuple t → s.rank ≡ t.rank → s.rank ≤ most_rank → IsCapacityTrace s ms u → IsCapacityTrace t ns v →
     ¬ (InLevel u v) → ¬ (AreEquivalent s t)
 
 -- ---- what fixes a tuple
@@ -116,12 +117,12 @@ GeneratorsFix = (t root : TupleData) (to_root : List Move) (path : TupleData →
 
 -- Each list of moves that fixes a tuple is the same automorphism as a product of generators.
 abbrev pub GeneratorsGenerate : Type 0
-GeneratorsGenerate = (t root : TupleData) (to_root : List Move) (path : TupleData → List Move) → IsTuple t → t.rank ≤ 26 → LeadsToFlat t to_root root → ArePaths root path →
+GeneratorsGenerate = (t root : TupleData) (to_root : List Move) (path : TupleData → List Move) → IsTuple t → t.rank ≤ most_rank → LeadsToFlat t to_root root → ArePaths root path →
     (ms : List Move) → AreMovesOfRank t.rank ms → Fixes ms t → (product : List Move) × IsProduct (IsGenerator to_root root path) product × (composite t.rank ms ≡ composite t.rank product)
 
 -- A trace leads to a flat tuple.
 abbrev pub TracesLeadToFlat : Type 0
-TracesLeadToFlat = (t root : TupleData) (ms : List Move) → IsTuple t → t.rank ≤ 26 → IsCapacityTrace t ms root → LeadsToFlat t ms root
+TracesLeadToFlat = (t root : TupleData) (ms : List Move) → IsTuple t → t.rank ≤ most_rank → IsCapacityTrace t ms root → LeadsToFlat t ms root
 
 -- First walks are a choice of paths.
 abbrev pub FirstWalksArePaths : Type 0

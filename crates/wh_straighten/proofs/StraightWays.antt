@@ -85,9 +85,6 @@ rest_of_rank n [] q h = h
 rest_of_rank n (m ∷ p) q h = rest_of_rank n p q (All-tail (IsMoveOfRank n) m (p ++ q) h)
 
 module _ (t : TupleData) (p new old q : List Move) where
-  abbrev here : TupleData
-  here = act_all t p
-
   replaced-no_longer : StandsFor (act_all t p) new old → (ms : List Move) → IsNoLonger t ms (p ++ (old ++ q)) → IsNoLonger t ms (p ++ (new ++ q))
   replaced-no_longer s ms h bound b =
       let first : tuple_length t ≤ bound = h bound b 0 (omega arith) in
