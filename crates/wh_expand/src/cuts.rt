@@ -108,10 +108,10 @@ fn push_run(
     Ok(())
 }
 
-/// Adds the cuts with one multiplier that keep the length, run by run. The sets that hold the multiplier and omit its inverse
+/// Adds the cuts with one multiplier that keep the length, by set. The sets that hold the multiplier and omit its inverse
 /// come in runs of masks one after another, one run in each block of four: a run goes through all sets of the letters
 /// before the two.
-fn push_runs(
+fn push_cuts_with(
     moves: &mut Vec<Move>,
     tuple: &Tuple,
     mult: Letter,
@@ -133,31 +133,6 @@ fn push_runs(
         push_run(moves, tuple, mult, degree, capacities, start, start + run)?;
     }
     Ok(())
-}
-
-/// Adds the cuts with one multiplier that keep the length, by set. Runs that are shorter than a piece are gone over together
-/// with the sets between them, which make no cut: that takes less time than to go from run to run.
-fn push_cuts_with(
-    moves: &mut Vec<Move>,
-    tuple: &Tuple,
-    mult: Letter,
-    degree: u32,
-    capacities: &[u32],
-) -> Result<(), OutOfMemory>
-    requires tuple { IsTuple tuple.now.plain }
-    requires rank { tuple.now.plain.rank ≤ most_level_rank }
-    requires of_rank { mult < 2 * tuple.now.plain.rank }
-    requires degree { degree ≡ deg mult tuple.now.plain }
-    requires capacities { IsTable (tuple_capacity tuple.now.plain) (2 ^ (2 * tuple.now.plain.rank)) capacities.now }
-    requires before { AreLevelMovesBefore tuple.now.plain (cut mult 0) moves.old.items }
-    ensures { OnOk result (AreLevelMovesBefore tuple.now.plain (cut (mult + 1) 0) moves.new.items) }
-{
-    if count_sets(2 * (mult.generator() - 1)) < PIECE {
-        push_run(moves, tuple, mult, degree, capacities, 0, capacities.len())?;
-        Ok(())
-    } else {
-        push_runs(moves, tuple, mult, degree, capacities)
-    }
 }
 
 /// Adds the cuts of a tuple of rank MOST_LEVEL_RANK at most that keep its length, by multiplier and then by set.
