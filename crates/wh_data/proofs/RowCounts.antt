@@ -4,7 +4,7 @@ use Rattle.wh_words.specs.Tuples.{TupleData}
 use Rattle.wh_fields.specs.FlowFields.{flow_rows}
 use Rattle.wh_data.specs.AnswerData.{SideData, VerdictData, AnswerData}
 use Rattle.wh_data.specs.AnswerData.VerdictData.{yes, no_length, no_level, undecided}
-use Rattle.wh_data.specs.AnswerData.AnswerData.{reduce, decide}
+use Rattle.wh_data.specs.AnswerData.AnswerData.{reduce, decide, straighten}
 use Rattle.wh_data.specs.AnswerTexts.{side_rows, at_rows, level_rows, verdict_rows, done_row, head_rows, body_rows}
 use Rattle.wh_data.specs.Numberings.{IsSideOfRank, IsVerdictOfRank, side_lines, verdict_lines}
 use Rattle.wh_data.specs.Laws.{CountsRows}
@@ -35,3 +35,4 @@ whole_count a k e = omega (arith, length-append (head_rows a ++ body_rows a) (do
 pub counts_rows : CountsRows
 counts_rows (reduce t s) is = whole_count (reduce t s) (side_lines t.rank) (side_count t.rank s is)
 counts_rows (decide s t v) is = whole_count (decide s t v) (verdict_lines s.rank v) (verdict_count s.rank v is.1)
+counts_rows (straighten t given ms end) is = absurd is

@@ -31,6 +31,7 @@ pub data VerdictData : Type 0 where
 pub data AnswerData : Type 0 where
   reduce : TupleData → SideData → AnswerData
   decide : TupleData → TupleData → VerdictData → AnswerData
+  straighten : TupleData → List Move → List Move → TupleData → AnswerData
 
 -- An answer, the numbers of the lines of its text that aren't skipped, and the letter and the value that each `flow` line names.
 pub record CertificateData : Type 0 where
@@ -51,6 +52,7 @@ verdict_of (verdicts.Undecided bound) = undecided bound
 abbrev pub answer_of : Answer → AnswerData
 answer_of (answers.Reduce t s) = reduce t.plain (side_of s)
 answer_of (answers.Decide s t v) = decide s.plain t.plain (verdict_of v)
+answer_of (answers.Straighten t given ms end) = straighten t.plain given ms end.plain
 
 abbrev pub certificate_of : Numbered → CertificateData
 certificate_of n = record { answer = answer_of n.answer; lines = n.lines; flow_heads = n.flow_heads }

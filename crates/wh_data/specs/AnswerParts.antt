@@ -8,7 +8,7 @@ use Rattle.wh_fields.specs.MoveFields.{IsMoveOf}
 use Rattle.wh_fields.specs.TupleFields.{IsTupleOf}
 use Rattle.wh_data.specs.AnswerData.{SideData, VerdictData, AnswerData}
 use Rattle.wh_data.specs.AnswerData.VerdictData.{yes, no_length, no_level, undecided}
-use Rattle.wh_data.specs.AnswerData.AnswerData.{reduce, decide}
+use Rattle.wh_data.specs.AnswerData.AnswerData.{reduce, decide, straighten}
 
 -- A side in rank n, whose end has so many words.
 pub record IsSideOf (n count : ℕ) (s : SideData) : Type 0 where
@@ -24,10 +24,11 @@ IsVerdictOf n count (no_length a b) = IsSideOf n count a × IsSideOf n count b
 IsVerdictOf n count (no_level a b ts) = IsSideOf n count a × IsSideOf n count b × All (IsTupleOf n count) ts × (1 ≤ length ts) × (length ts ≤ most_level_tuples)
 IsVerdictOf n count (undecided bound) = ⊥
 
--- An answer that isn't undecided, of a rank that its command allows.
+-- An answer of a command that can be checked, which isn't undecided, of a rank that its command allows.
 abbrev pub IsCertificate : AnswerData → Type 0
 IsCertificate (reduce t s) = IsTuple t × (1 ≤ t.rank) × (t.rank ≤ most_rank) × IsSideOf t.rank (length t.words) s
 IsCertificate (decide s t v) = IsTuple s × (1 ≤ s.rank) × (s.rank ≤ most_level_rank) × IsTupleOf s.rank (length s.words) t × IsVerdictOf s.rank (length s.words) v
+IsCertificate (straighten t given ms end) = ⊥
 
 abbrev pub verdict_heads : VerdictData → List (ℕ × ℕ)
 verdict_heads (yes ms) = []
@@ -39,3 +40,4 @@ verdict_heads (undecided bound) = []
 abbrev pub heads_of : AnswerData → List (ℕ × ℕ)
 heads_of (reduce t s) = heads_from 0 s.flows
 heads_of (decide s t v) = verdict_heads v
+heads_of (straighten t given ms end) = []

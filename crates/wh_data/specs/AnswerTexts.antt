@@ -5,13 +5,14 @@ use Rattle.wh_lines.specs.Rows.{Row, number_row, rows_text}
 use Rattle.wh_fields.specs.TupleFields.{words_row}
 use Rattle.wh_fields.specs.MoveFields.{moves_row}
 use Rattle.wh_fields.specs.FlowFields.{flow_rows, HaveLines}
+use Rattle.wh_data.specs.declared.command.Command.{Command}
 use Rattle.wh_data.specs.declared.command.Command.TheVariants as commands
 use Rattle.wh_data.specs.declared.answer.Bound.{Bound}
 use Rattle.wh_data.specs.declared.answer.Bound.TheVariants as bounds
 use Rattle.wh_data.specs.Commands.{heading_row}
 use Rattle.wh_data.specs.AnswerData.{SideData, VerdictData, AnswerData}
 use Rattle.wh_data.specs.AnswerData.VerdictData.{yes, no_length, no_level, undecided}
-use Rattle.wh_data.specs.AnswerData.AnswerData.{reduce, decide}
+use Rattle.wh_data.specs.AnswerData.AnswerData.{reduce, decide, straighten}
 
 -- ---- sides and levels
 -- The rows of a side: its trace, its end, and a flow for each generator.
@@ -54,9 +55,14 @@ verdict_rows (undecided bound) = []
 abbrev pub done_row : Row
 done_row = record { keyword = codes "done"; fields = [] }
 
+-- The rows of a heading, a rank and a tuple.
+abbrev pub tuple_rows : Command → TupleData → List Row
+tuple_rows command t = heading_row command ∷ number_row (codes "rank") t.rank ∷ words_row (codes "tuple") t.words ∷ []
+
 -- The rows before the sides: the heading, the rank, the tuples, and the verdict.
 abbrev pub head_rows : AnswerData → List Row
-head_rows (reduce t s) = heading_row commands.Reduce ∷ number_row (codes "rank") t.rank ∷ words_row (codes "tuple") t.words ∷ []
+head_rows (reduce t s) = tuple_rows commands.Reduce t
+head_rows (straighten t given ms end) = tuple_rows commands.Straighten t
 head_rows (decide s t v) =
     heading_row commands.Decide ∷ number_row (codes "rank") s.rank
     ∷ words_row (codes "first") s.words ∷ words_row (codes "second") t.words ∷ verdict_row v ∷ []
@@ -65,6 +71,7 @@ head_rows (decide s t v) =
 abbrev pub body_rows : AnswerData → List Row
 body_rows (reduce t s) = side_rows s
 body_rows (decide s t v) = verdict_rows v
+body_rows (straighten t given ms end) = moves_row (codes "given") given ∷ moves_row (codes "moves") ms ∷ words_row (codes "end") end.words ∷ []
 
 -- All rows of an answer.
 abbrev pub rows_of : AnswerData → List Row
@@ -89,3 +96,4 @@ IsPrintableVerdict (undecided bound) = Unit {0}
 abbrev pub IsPrintable : AnswerData → Type 0
 IsPrintable (reduce t s) = IsPrintableSide s
 IsPrintable (decide s t v) = IsPrintableVerdict v
+IsPrintable (straighten t given ms end) = Unit {0}

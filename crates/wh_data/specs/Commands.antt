@@ -1,5 +1,5 @@
 -- The names of commands, and the headings that answers have.
-use Rattle.std.specs.Prelude.{cond, ◌||◌, Bool, ℕ, List, [], ◌∷◌, Option, Some, None, codes}
+use Rattle.std.specs.Prelude.{cond, ◌||◌, Bool, true, false, ℕ, List, [], ◌∷◌, Option, Some, None, codes}
 use Rattle.wh_lines.specs.Lines.{are}
 use Rattle.wh_lines.specs.Rows.{Row}
 use Rattle.wh_data.specs.declared.command.Command.{Command}
@@ -9,16 +9,24 @@ use Rattle.wh_data.specs.declared.command.Command.TheVariants as commands
 abbrev pub command_name : Command → List ℕ
 command_name commands.Reduce = codes "reduce"
 command_name commands.Decide = codes "decide"
+command_name commands.Straighten = codes "straighten"
 
 -- The command of a name.
 abbrev pub command_named : List ℕ → Option Command
 command_named name =
     cond (are name (command_name commands.Reduce)) (Some commands.Reduce)
-    (cond (are name (command_name commands.Decide)) (Some commands.Decide) None)
+    (cond (are name (command_name commands.Decide)) (Some commands.Decide)
+    (cond (are name (command_name commands.Straighten)) (Some commands.Straighten) None))
 
--- The name is one of a command whose answers aren't certificates.
+-- Answers of the command can be checked: they are certificates.
+abbrev pub is_checked : Command → Bool
+is_checked commands.Reduce = true
+is_checked commands.Decide = true
+is_checked commands.Straighten = false
+
+-- The name is one of a command to come, whose answers aren't certificates.
 abbrev pub is_unchecked_name : List ℕ → Bool
-is_unchecked_name name = are name (codes "straighten") || (are name (codes "stabiliser") || are name (codes "gen"))
+is_unchecked_name name = are name (codes "stabiliser") || are name (codes "gen")
 
 -- The version of the form of answers.
 abbrev pub answer_version : List ℕ

@@ -4,7 +4,7 @@ use Rattle.std.specs.List.{All}
 use Rattle.wh_data.specs.AnswerTexts.{head_rows}
 use Rattle.wh_data.specs.AnswerData.{SideData, VerdictData, AnswerData, CertificateData}
 use Rattle.wh_data.specs.AnswerData.VerdictData.{yes, no_length, no_level, undecided}
-use Rattle.wh_data.specs.AnswerData.AnswerData.{reduce, decide}
+use Rattle.wh_data.specs.AnswerData.AnswerData.{reduce, decide, straighten}
 use Rattle.wh_words.specs.Limits.{most_level_rank}
 
 -- ---- ranks
@@ -21,10 +21,11 @@ IsVerdictOfRank n (no_length a b) = IsSideOfRank n a × IsSideOfRank n b
 IsVerdictOfRank n (no_level a b ts) = IsSideOfRank n a × IsSideOfRank n b × All (λ t. t.rank ≡ n) ts × (n ≤ most_level_rank)
 IsVerdictOfRank n (undecided bound) = ⊥
 
--- All parts of an answer are of one rank, and it isn't undecided.
+-- All parts of an answer are of one rank, it isn't undecided, and its command can be checked.
 abbrev pub IsAnswerOfOneRank : AnswerData → Type 0
 IsAnswerOfOneRank (reduce t s) = IsSideOfRank t.rank s
 IsAnswerOfOneRank (decide s t v) = (t.rank ≡ s.rank) × IsVerdictOfRank s.rank v
+IsAnswerOfOneRank (straighten t given ms end) = ⊥
 
 -- ---- lines
 -- How many lines a side of rank n has.
@@ -46,6 +47,7 @@ head_lines a = length (head_rows a)
 abbrev pub answer_lines : AnswerData → ℕ
 answer_lines (reduce t s) = head_lines (reduce t s) + side_lines t.rank + 1
 answer_lines (decide s t v) = head_lines (decide s t v) + verdict_lines s.rank v + 1
+answer_lines (straighten t given ms end) = head_lines (straighten t given ms end) + 3 + 1
 
 -- How many `flow` lines a verdict has.
 abbrev pub verdict_flows : ℕ → VerdictData → ℕ
@@ -58,6 +60,7 @@ verdict_flows n (undecided bound) = 0
 abbrev pub flow_lines : AnswerData → ℕ
 flow_lines (reduce t s) = t.rank
 flow_lines (decide s t v) = verdict_flows s.rank v
+flow_lines (straighten t given ms end) = 0
 
 -- The parts of a certificate are of one rank, and it has a number for each line, and a letter and a value for each `flow` line.
 pub record IsNumbered (c : CertificateData) : Type 0 where

@@ -28,3 +28,4 @@ verdict_status (verdicts.Undecided b) = statuses.Undecided
 abbrev pub answer_status : Answer → Status
 answer_status (answers.Reduce t s) = statuses.Done
 answer_status (answers.Decide s t v) = verdict_status v
+answer_status (answers.Straighten t given ms end) = statuses.Done

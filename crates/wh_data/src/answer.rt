@@ -70,6 +70,13 @@ pub enum Answer {
         second: Tuple,
         verdict: Verdict,
     },
+    /// The tuple and the moves that were asked for, the straight moves in their place, and the tuple that both lead to.
+    Straighten {
+        tuple: Tuple,
+        given: List<Move>,
+        moves: List<Move>,
+        end: Tuple,
+    },
 }
 
 impl Answer {
@@ -81,6 +88,7 @@ impl Answer {
         match self {
             Answer::Reduce { .. } => 3,
             Answer::Decide { .. } => 5,
+            Answer::Straighten { .. } => 3,
         }
     }
 
@@ -91,6 +99,7 @@ impl Answer {
         match self {
             Answer::Reduce { .. } => Status::Done,
             Answer::Decide { verdict, .. } => verdict.status(),
+            Answer::Straighten { .. } => Status::Done,
         }
     }
 }

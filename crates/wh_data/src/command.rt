@@ -1,6 +1,6 @@
 //! Commands of the program, and the headings of their answers.
 ghost use Rattle.std.specs.Prelude.{◌≡◌};
-ghost use Rattle.wh_data.specs.Commands.{command_name, command_named, answer_version, is_unchecked_name};
+ghost use Rattle.wh_data.specs.Commands.{command_name, command_named, is_checked, answer_version, is_unchecked_name};
 
 /// What is asked for.
 #[derive(Clone, Copy, PartialEq, Eq, Debug)]
@@ -9,6 +9,8 @@ pub enum Command {
     Reduce,
     /// Whether moves carry one tuple onto another.
     Decide,
+    /// A straight list of moves in the place of another.
+    Straighten,
 }
 
 impl Command {
@@ -19,6 +21,7 @@ impl Command {
         match self {
             Command::Reduce => b"reduce",
             Command::Decide => b"decide",
+            Command::Straighten => b"straighten",
         }
     }
 
@@ -30,8 +33,21 @@ impl Command {
             Some(Command::Reduce)
         } else if name == Command::Decide.name() {
             Some(Command::Decide)
+        } else if name == Command::Straighten.name() {
+            Some(Command::Straighten)
         } else {
             None
+        }
+    }
+
+    /// Whether its answers can be checked.
+    pub fn is_checked(self) -> bool
+        ensures { result ≡ is_checked self }
+    {
+        match self {
+            Command::Reduce => true,
+            Command::Decide => true,
+            Command::Straighten => false,
         }
     }
 }
@@ -43,11 +59,9 @@ pub fn answer_version() -> &'static [u8]
     b"1"
 }
 
-/// Whether a name is one of a command whose answers aren't certificates.
+/// Whether a name is one of a command to come, whose answers aren't certificates.
 pub fn is_unchecked_name(name: &[u8]) -> bool
     ensures { result ≡ is_unchecked_name name.now }
 {
-    name == b"straighten".as_slice()
-        || name == b"stabiliser".as_slice()
-        || name == b"gen".as_slice()
+    name == b"stabiliser".as_slice() || name == b"gen".as_slice()
 }

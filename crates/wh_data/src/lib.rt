@@ -12,7 +12,7 @@ mod status;
 
 pub use answer::{Answer, Bound, Side, Verdict};
 pub use command::{Command, answer_version, is_unchecked_name};
-pub use limits::{MOST_ANSWER_BYTES, MOST_PROBLEM_BYTES};
+pub use limits::{MOST_ANSWER_BYTES, MOST_GIVEN_MOVES, MOST_PROBLEM_BYTES};
 pub use numbered::Numbered;
 pub use printer::print_answer;
 pub use problem::Problem;

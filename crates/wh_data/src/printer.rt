@@ -2,16 +2,18 @@
 ghost use Rattle.std.specs.Prelude.{◌≡◌, ◌∷◌, [], ◌++◌, length, IfOk, OnOk, codes};
 ghost use Rattle.wh_lines.specs.Rows.{fields_text, number_row, row_text, rows_text};
 ghost use Rattle.wh_fields.specs.TupleFields.{words_row};
+ghost use Rattle.wh_fields.specs.MoveFields.{moves_row};
 ghost use Rattle.wh_data.specs.AnswerData.{plains, side_of, verdict_of, answer_of};
 ghost use Rattle.wh_data.specs.declared.command.Command.TheVariants as commands;
 ghost use Rattle.wh_data.specs.Commands.{heading_row};
-ghost use Rattle.wh_data.specs.AnswerTexts.{side_rows, at_rows, level_rows, bound_fields, verdict_row, verdict_rows, head_rows, body_rows, answer_text, IsPrintableSide, IsPrintableVerdict, IsPrintable};
+ghost use Rattle.wh_data.specs.AnswerTexts.{side_rows, at_rows, level_rows, bound_fields, verdict_row, verdict_rows, tuple_rows, head_rows, body_rows, answer_text, IsPrintableSide, IsPrintableVerdict, IsPrintable};
 
 use crate::answer::{Answer, Bound, Side, Verdict};
 use crate::command::{Command, answer_version};
 use std::alloc::Global;
 use wh_fields::{print_flows, print_moves, print_words};
 use wh_lines::{print_number, print_number_row};
+use wh_moves::Move;
 use wh_words::{OutOfMemory, Tuple};
 
 /// Writes the lines of a side.
@@ -117,11 +119,11 @@ fn print_heading(out: &mut Vec<u8>, command: Command) -> Result<(), OutOfMemory>
     Ok(())
 }
 
-/// Writes the lines of an answer of `reduce` before the side.
-fn print_reduced_head(out: &mut Vec<u8>, tuple: &Tuple) -> Result<(), OutOfMemory>
-    ensures { OnOk result (out.new.items ≡ out.old.items ++ rows_text (heading_row commands.Reduce ∷ number_row (codes "rank") tuple.now.plain.rank ∷ words_row (codes "tuple") tuple.now.plain.words ∷ [])) }
+/// Writes the lines of a heading, a rank and a tuple.
+fn print_tuple_head(out: &mut Vec<u8>, command: Command, tuple: &Tuple) -> Result<(), OutOfMemory>
+    ensures { OnOk result (out.new.items ≡ out.old.items ++ rows_text (tuple_rows command tuple.now.plain)) }
 {
-    print_heading(out, Command::Reduce)?;
+    print_heading(out, command)?;
     print_number_row(out, b"rank", tuple.rank().get() as u64)?;
     print_words(out, b"tuple", tuple)?;
     Ok(())
@@ -149,13 +151,28 @@ fn print_head(out: &mut Vec<u8>, answer: &Answer) -> Result<(), OutOfMemory>
     ensures { OnOk result (out.new.items ≡ out.old.items ++ rows_text (head_rows (answer_of answer.now))) }
 {
     match answer {
-        Answer::Reduce { tuple, .. } => print_reduced_head(out, tuple),
+        Answer::Reduce { tuple, .. } => print_tuple_head(out, Command::Reduce, tuple),
+        Answer::Straighten { tuple, .. } => print_tuple_head(out, Command::Straighten, tuple),
         Answer::Decide {
             first,
             second,
             verdict,
         } => print_decided_head(out, first, second, verdict),
     }
+}
+
+/// Writes the lines of a given list of moves, a straight one, and the tuple that both lead to.
+fn print_straightened(
+    out: &mut Vec<u8>,
+    given: &[Move],
+    moves: &[Move],
+    end: &Tuple,
+) -> Result<(), OutOfMemory>
+    ensures { OnOk result (out.new.items ≡ out.old.items ++ rows_text (moves_row (codes "given") given.now ∷ moves_row (codes "moves") moves.now ∷ words_row (codes "end") end.now.plain.words ∷ [])) }
+{
+    print_moves(out, b"given", given)?;
+    print_moves(out, b"moves", moves)?;
+    print_words(out, b"end", end)
 }
 
 /// Writes the lines between these and the last.
@@ -166,6 +183,9 @@ fn print_body(out: &mut Vec<u8>, answer: &Answer) -> Result<(), OutOfMemory>
     match answer {
         Answer::Reduce { side, .. } => print_side(out, side),
         Answer::Decide { verdict, .. } => print_after_verdict(out, verdict),
+        Answer::Straighten {
+            given, moves, end, ..
+        } => print_straightened(out, given.items(), moves.items(), end),
     }
 }
 

@@ -1,5 +1,6 @@
 //! Problems.
-use wh_words::Tuple;
+use wh_moves::Move;
+use wh_words::{List, Tuple};
 
 /// What a text of a command asks.
 #[derive(Drop)]
@@ -8,4 +9,6 @@ pub enum Problem {
     Reduce { tuple: Tuple },
     /// To decide whether moves carry the first tuple onto the second.
     Decide { first: Tuple, second: Tuple },
+    /// To straighten a list of moves that leads from a tuple.
+    Straighten { tuple: Tuple, moves: List<Move> },
 }

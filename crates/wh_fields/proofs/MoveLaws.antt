@@ -1,5 +1,5 @@
 -- A move is read exactly from the fields that spell it: for the law on moves.
-use Rattle.std.proofs.Common.{◌≡◌, ℕ, suc, ◌+◌, ◌*◌, ◌^◌, ◌<◌, ◌≤◌, ◌==◌, ltb, Bool, true, false, cond, List, [], ◌∷◌, ◌++◌, map, bit_or, refl, sym, ap, ◌∙◌, subst, arith, None, Some, pow_mono, pow-suc, lt_of_lt_of_le}
+use Rattle.std.proofs.Common.{◌≡◌, ℕ, suc, ◌+◌, ◌*◌, ◌^◌, ◌<◌, ◌≤◌, ◌==◌, ltb, Bool, true, false, cond, List, [], ◌∷◌, ◌++◌, map, bit_or, refl, sym, ap, ◌∙◌, subst, arith, None, Some, Ok, Err, inl, inr, pow_mono, pow-suc, lt_of_lt_of_le}
 use Rattle.std.specs.Prelude.{◌&&◌, leb, not, codes, decimal}
 use Rattle.std.specs.declared.option.Option.{Option}
 use Rattle.std.specs.Option.{option_and_then}
@@ -15,13 +15,16 @@ use Rattle.wh_words.specs.Letters.{inverse_letter}
 use Rattle.wh_words.specs.LetterSets.{in_set}
 use Rattle.wh_words.specs.Moves.{Kind, IsKind}
 use Rattle.wh_words.specs.Moves.Kind.{swap, invert, cut}
+use Rattle.wh_lines.specs.declared.read_error.ReadError.TheVariants as errors
+use Rattle.wh_lines.specs.Lines.{Field}
+use Rattle.wh_lines.specs.Readings.{◌>>=◌, items_at}
 use Rattle.wh_lines.specs.Numbers.{number}
 use Rattle.wh_lines.proofs.NumberLaws.{reads_numbers}
 use Rattle.wh_fields.specs.Words.{letter_of, letter_text}
-use Rattle.wh_fields.specs.MoveFields.{letter_from, set_from, swap_of, invert_of, cut_with, cut_of, kind_from, kind_in}
-use Rattle.wh_fields.specs.Laws.{RisesFrom, set_of, IsMoveField, ReadsMoves}
+use Rattle.wh_fields.specs.MoveFields.{letter_from, set_from, swap_of, invert_of, cut_with, cut_of, kind_from, kind_in, move_with, or_bad_move, move_at, moves_at}
+use Rattle.wh_fields.specs.Laws.{RisesFrom, set_of, IsMoveField, ReadsMoves, IsFirstBadMove, NamesTheFirstBadMove}
 use Rattle.wh_fields.specs.Laws.IsMoveField.{a_swap, an_inversion, a_cut}
-use Rattle.wh_lines.proofs.Equations.{some_is}
+use Rattle.wh_lines.proofs.Equations.{bind_err, some_is}
 use Rattle.wh_fields.proofs.WordReadings.{letter_is}
 use Rattle.wh_fields.proofs.WordLaws.{letter_back}
 use Rattle.wh_fields.proofs.ReadMoves.{number_kind}
@@ -163,6 +166,25 @@ move_back n f kind h (a_cut a xs within of_rank rise holds omits spelled is) =
 
 pub reads_moves : ReadsMoves
 reads_moves n f kind h = (move_is n f kind h, move_back n f kind h)
+
+-- ---- the first field that is no move
+move_fault : (n l c column : ℕ) (o : Option Kind) → or_bad_move l c (move_with n o) ≡ Err (errors.BadMove l column) → (o ≡ None) × (column ≡ c)
+move_fault n l c column None e = (refl, (cc))
+move_fault n l c column (Some k) e = absurd (cc)
+
+pub first_bad_move : NamesTheFirstBadMove
+unfolding items_at
+first_bad_move n l column [] e = absurd (cc)
+first_bad_move n l column (f ∷ fs) e =
+    elim (bind_err (move_at n l f) (λ m. moves_at n l fs >>= λ ms. Ok (m ∷ ms)) (errors.BadMove l column) e) [
+      | inl here ↦ (let p = move_fault n l f.column column (kind_in n f.bytes) here in
+          record { prefix = []; bad = f; suffix = fs; parts = refl; place = p.1; moves = []; read = refl; is_bad = p.0 })
+      | inr there ↦ elim (bind_err (moves_at n l fs) (λ ms. Ok (there.0 ∷ ms)) (errors.BadMove l column) there.2) [
+        | inl later ↦ (let q : IsFirstBadMove n l fs column = first_bad_move n l column fs later in
+            record { prefix = f ∷ q.prefix; bad = q.bad; suffix = q.suffix; parts = ap (λ v. f ∷ v) q.parts; place = q.place; moves = there.0 ∷ q.moves; read = rw (there.1, q.read) refl; is_bad = q.is_bad })
+        | inr never ↦ absurd (cc)
+      ]
+    ]
 
 -- ---- what is spelled is a kind of move
 -- letters that rise make a set of the first letters

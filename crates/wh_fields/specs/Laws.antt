@@ -5,13 +5,13 @@ use Rattle.wh_words.specs.Limits.{most_rank}
 use Rattle.wh_words.specs.Letters.{inverse_letter}
 use Rattle.wh_words.specs.LetterSets.{in_set}
 use Rattle.wh_words.specs.Words.{IsOfRank}
-use Rattle.wh_words.specs.Moves.{Kind}
+use Rattle.wh_words.specs.Moves.{Kind, Move}
 use Rattle.wh_words.specs.Moves.Kind.{swap, invert, cut}
 use Rattle.wh_words.specs.Flows.{place}
 use Rattle.wh_lines.specs.declared.read_error.ReadError.TheVariants as errors
 use Rattle.wh_lines.specs.Lines.{Field}
 use Rattle.wh_fields.specs.Words.{letter_of, letter_text, letters_at, word_at, word_text}
-use Rattle.wh_fields.specs.MoveFields.{kind_in}
+use Rattle.wh_fields.specs.MoveFields.{kind_in, moves_at}
 use Rattle.wh_fields.specs.FlowFields.{Pair, FlowData, flow_in}
 use Rattle.wh_flow.specs.Tables.{zero_table, with_cell}
 
@@ -59,6 +59,21 @@ pub data IsMoveField (n : ℕ) (f : List ℕ) (kind : Kind) : Type 0 where
 -- A move of a rank is read exactly from the fields that spell it.
 abbrev pub ReadsMoves : Type 0
 ReadsMoves = (n : ℕ) (f : List ℕ) (kind : Kind) → n ≤ most_rank → (kind_in n f ≡ Some kind) ↔ IsMoveField n f kind
+
+-- A refusal of a move names the leftmost field that is none: the fields before it are moves.
+pub record IsFirstBadMove (n l : ℕ) (fs : List Field) (column : ℕ) : Type 0 where
+  pub prefix : List Field
+  pub bad : Field
+  pub suffix : List Field
+  pub parts : fs ≡ prefix ++ bad ∷ suffix
+  pub place : column ≡ bad.column
+  pub moves : List Move
+  pub read : moves_at n l prefix ≡ Ok moves
+  pub is_bad : kind_in n bad.bytes ≡ None
+
+-- A refusal of moves names the first field that is none.
+abbrev pub NamesTheFirstBadMove : Type 0
+NamesTheFirstBadMove = (n l column : ℕ) (fs : List Field) → moves_at n l fs ≡ Err (errors.BadMove l column) → IsFirstBadMove n l fs column
 
 -- ---- flows
 -- The field of a pair.

@@ -1,5 +1,5 @@
 -- How a field tells a move of a rank.
-use Rattle.std.specs.Prelude.{ℕ, ◌+◌, ◌^◌, ◌==◌, leb, ltb, ◌&&◌, not, cond, List, [], ◌∷◌, Option, Some, None, bit_or, codes, decimal, Result, map, ◌++◌, ◌≡◌}
+use Rattle.std.specs.Prelude.{ℕ, ◌+◌, ◌^◌, ◌==◌, leb, ltb, ◌&&◌, not, cond, List, [], ◌∷◌, Option, Some, None, bit_or, codes, decimal, Result, Ok, Err, map, ◌++◌, ◌≡◌}
 use Rattle.std.specs.Option.{option_and_then}
 use Rattle.wh_words.specs.Letters.{inverse_letter}
 use Rattle.wh_words.specs.LetterSets.{in_set}
@@ -11,7 +11,8 @@ use Rattle.wh_fields.specs.Words.{letter_of, letter_text}
 use Rattle.wh_lines.specs.Rows.{Row}
 use Rattle.wh_lines.specs.Lines.{Field}
 use Rattle.wh_lines.specs.declared.read_error.ReadError.{ReadError}
-use Rattle.wh_lines.specs.Readings.{or_bad_line}
+use Rattle.wh_lines.specs.declared.read_error.ReadError.TheVariants as errors
+use Rattle.wh_lines.specs.Readings.{items_at}
 
 -- The letter that is told, where it isn't before another one.
 abbrev pub letter_from : ℕ → Option ℕ → Option ℕ
@@ -60,9 +61,18 @@ abbrev pub move_with : ℕ → Option Kind → Option Move
 move_with n None = None
 move_with n (Some kind) = Some (record { rank = n; kind = kind })
 
+-- A move in column c of line l, or the refusal of what stands there.
+abbrev pub or_bad_move : ℕ → ℕ → Option Move → Result Move ReadError
+or_bad_move l c None = Err (errors.BadMove l c)
+or_bad_move l c (Some m) = Ok m
+
 -- The move of a field in line l.
 abbrev pub move_at : ℕ → ℕ → Field → Result Move ReadError
-move_at n l f = or_bad_line l (move_with n (kind_in n f.bytes))
+move_at n l f = or_bad_move l f.column (move_with n (kind_in n f.bytes))
+
+-- The moves of some fields in line l.
+abbrev pub moves_at : ℕ → ℕ → List Field → Result (List Move) ReadError
+moves_at n l fs = items_at (move_at n l) fs
 
 -- The byte of a letter, where a set holds it.
 abbrev pub set_item : ℕ → ℕ → List ℕ

@@ -1,5 +1,5 @@
 //! Laws of fields, each the contract of an empty function.
-ghost use Rattle.wh_fields.specs.Laws.{ReadsLetters, ReadsWords, NamesTheFirstBadLetter, ReadsMoves, ReadsFlows};
+ghost use Rattle.wh_fields.specs.Laws.{ReadsLetters, ReadsWords, NamesTheFirstBadLetter, ReadsMoves, NamesTheFirstBadMove, ReadsFlows};
 
 /// Letters are read exactly from their bytes.
 pub fn letters()
@@ -19,6 +19,11 @@ pub fn first_bad_letter()
 /// A move is read exactly from the fields that spell it.
 pub fn moves()
     ensures { ReadsMoves }
+{}
+
+/// A refusal of a move names the leftmost field that is none.
+pub fn first_bad_move()
+    ensures { NamesTheFirstBadMove }
 {}
 
 /// A flow is read exactly from the fields that tell it.

@@ -1,9 +1,9 @@
 //! Reading of moves.
 ghost use Rattle.std.specs.Prelude.{◌≡◌, ◌≤◌, ◌<◌, ◌*◌};
 ghost use Rattle.wh_words.specs.Limits.{most_rank};
-ghost use Rattle.wh_lines.specs.Readings.{Gives, items_at};
+ghost use Rattle.wh_lines.specs.Readings.{Gives};
 ghost use Rattle.wh_fields.specs.MoveFields as spec;
-ghost use Rattle.wh_fields.specs.MoveFields.{set_from, kind_in, move_with, move_at};
+ghost use Rattle.wh_fields.specs.MoveFields.{set_from, kind_in, move_with, move_at, moves_at};
 
 use crate::letter::letter_of;
 use std::alloc::Global;
@@ -93,17 +93,20 @@ fn move_of(rank: Rank, bytes: &[u8]) -> Option<Move>
     }
 }
 
-/// The move of a field. BadLine comes where it tells none.
+/// The move of a field. BadMove comes where it tells none.
 fn read_move(rank: Rank, line: u64, field: &Field) -> Result<Move, ReadError>
     ensures { Gives (λ m. m) result (move_at rank line field.now) }
 {
     match move_of(rank, field.bytes()) {
         Some(m) => Ok(m),
-        None => Err(ReadError::BadLine { line }),
+        None => Err(ReadError::BadMove {
+            line,
+            column: field.column() as u64,
+        }),
     }
 }
 
-/// The moves of fields.
+/// The moves of fields. BadMove names the leftmost field that is no move of the rank.
 #[tactic(auto, using(wh_lines::proofs::ItemReadings::items_end))]
 pub fn read_moves(
     alloc: Global,
@@ -111,7 +114,7 @@ pub fn read_moves(
     line: u64,
     fields: &[Field],
 ) -> Result<List<Move>, ReadError>
-    ensures { Gives (λ v. v) result (items_at (move_at rank line) fields.now) }
+    ensures { Gives (λ v. v) result (moves_at rank line fields.now) }
 {
     let mut out = Vec::new(alloc);
     for field in fields {

@@ -27,6 +27,10 @@ pub enum ReadError {
     BadLetter { line: u64, column: u64 },
     /// A `tuple` line has more than 4,096 letters as they are written.
     LongTuple { line: u64, length: u64 },
+    /// A `moves` line has more than 1,024 moves.
+    TooManyMoves { line: u64, count: u64 },
+    /// A field is no move of the rank; the leftmost one, and `column` is that of its first byte.
+    BadMove { line: u64, column: u64 },
     /// The text has another number of `tuple` lines than the command takes.
     TupleCount { expected: u64, found: u64 },
     /// The two tuples have different numbers of words: these.
@@ -88,6 +92,10 @@ impl ReadError {
                 Message::AtByte(line, column, "a byte that is no letter of the rank")
             }
             ReadError::LongTuple { line, length } => Message::TooMany(line, length, "letters"),
+            ReadError::TooManyMoves { line, count } => Message::TooMany(line, count, "moves"),
+            ReadError::BadMove { line, column } => {
+                Message::AtByte(line, column, "a field that is no move of the rank")
+            }
             ReadError::TupleCount { expected, found } => {
                 Message::Unequal("tuples expected:", expected, "found:", found)
             }

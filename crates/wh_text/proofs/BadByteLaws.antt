@@ -4,6 +4,7 @@ use Rattle.std.specs.Prelude.{leb, ◌&&◌, codes}
 use Rattle.std.specs.declared.option.Option.{Option}
 use Rattle.std.specs.List.{sum_by}
 use Rattle.wh_words.specs.Tuples.{TupleData}
+use Rattle.wh_words.specs.Moves.{Move}
 use Rattle.wh_lines.specs.declared.read_error.ReadError.{ReadError}
 use Rattle.wh_lines.specs.declared.read_error.ReadError.TheVariants as errors
 use Rattle.wh_lines.specs.Lines.{Field, lines, are}
@@ -12,17 +13,18 @@ use Rattle.wh_lines.specs.Numbers.{number}
 use Rattle.wh_lines.specs.KeptLines.{Kept, Rest}
 use Rattle.wh_lines.specs.KeptLines.Rest.{line, bad_byte, end}
 use Rattle.wh_lines.specs.LineReadings.{Reading, start, line_of, line_after}
-use Rattle.wh_lines.proofs.Equations.{bind_ok, bind_err, ok_is, refused_ok}
+use Rattle.wh_lines.proofs.Equations.{bind_ok, bind_err, ok_is, ok_same, refused_ok}
 use Rattle.wh_lines.proofs.NextLines.{line_told}
 use Rattle.wh_lines.proofs.BadBytes.{IsBadAt, first_bad}
 use Rattle.wh_fields.specs.Words.{letter_of, letter_at, letters_at, word_at}
 use Rattle.wh_fields.specs.TupleFields.{words_at, short_tuple, tuple_at}
+use Rattle.wh_fields.specs.MoveFields.{kind_in, move_with, or_bad_move, move_at, moves_at}
 use Rattle.wh_data.specs.declared.command.Command.{Command}
 use Rattle.wh_data.specs.declared.command.Command.TheVariants as commands
 use Rattle.wh_text.specs.RankLines.{greatest_rank, rank_at, rank_number, allowed_rank, no_rank, rank_after}
-use Rattle.wh_data.specs.ProblemData.ProblemData.{decide}
-use Rattle.wh_text.specs.Problems.{tuple_line, tuples_of, one_tuple, two_tuples, decide_both, problem_with, problem_after, problem}
-use Rattle.wh_data.specs.Limits.{most_problem_bytes}
+use Rattle.wh_data.specs.ProblemData.ProblemData.{decide, straighten}
+use Rattle.wh_text.specs.Problems.{tuple_line, given_moves, nothing_left, last_moves, has_moves, Stated, with_tuple, stated, takes_moves, one_tuple, two_tuples, decide_both, problem_with, problem_after, problem}
+use Rattle.wh_data.specs.Limits.{most_problem_bytes, most_given_moves}
 use Rattle.wh_text.specs.Laws.{NamesTheFirstBadByte, IsFirstBadByte}
 
 -- ---- what other readers refuse is no byte
@@ -79,6 +81,21 @@ rank_other command l [] = tt
 rank_other command l (f ∷ []) = number_other command l (number f.bytes)
 rank_other command l (f ∷ g ∷ fs) = tt
 
+move_other : (l c : ℕ) (o : Option Move) → RefusesOther (or_bad_move l c o)
+move_other l c None = tt
+move_other l c (Some m) = tt
+
+moves_other : (n l : ℕ) (fs : List Field) → RefusesOther (moves_at n l fs)
+unfolding items_at
+moves_other n l [] = tt
+moves_other n l (f ∷ fs) =
+    bind_other (move_at n l f) (λ m. moves_at n l fs >>= λ ms. Ok (m ∷ ms)) (move_other l f.column (move_with n (kind_in n f.bytes)))
+    (λ m. bind_other (moves_at n l fs) (λ ms. Ok (m ∷ ms)) (moves_other n l fs) (λ ms. tt))
+
+given_other : (n : ℕ) (k : Kept) → RefusesOther (given_moves n k)
+given_other n k =
+    cond_other (ltb most_given_moves (length k.fields)) (Err (errors.TooManyMoves k.number (length k.fields))) (moves_at n k.number k.fields) tt (moves_other n k.number k.fields)
+
 line_other : (n : ℕ) (k : Kept) → RefusesOther (tuple_line n k)
 line_other n k = cond_other (are k.keyword (codes "tuple")) (tuple_at n k.number k.fields) (Err (errors.BadLine k.number)) (tuple_other n k.number k.fields) tt
 
@@ -96,26 +113,64 @@ two_other (t ∷ u ∷ v ∷ ts) = tt
 both_other : (s t : TupleData) → RefusesOther (decide_both s t)
 both_other s t = cond_other (length s.words == length t.words) (Ok (decide s t)) (Err (errors.SizeMismatch (length s.words) (length t.words))) tt tt
 
-with_other : (command : Command) (ts : List TupleData) → RefusesOther (problem_with command ts)
-with_other commands.Reduce ts = bind_other (one_tuple ts) _ (one_other ts) (λ t. tt)
-with_other commands.Decide ts = bind_other (two_tuples ts) _ (two_other ts) (λ p. both_other p.0 p.1)
+with_other : (command : Command) (s : Stated) → RefusesOther s.moves → RefusesOther (problem_with command s)
+with_other commands.Reduce s h = bind_other (one_tuple s.tuples) _ (one_other s.tuples) (λ t. tt)
+with_other commands.Decide s h = bind_other (two_tuples s.tuples) _ (two_other s.tuples) (λ p. both_other p.0 p.1)
+with_other commands.Straighten s h = bind_other (one_tuple s.tuples) _ (one_other s.tuples) (λ t. bind_other s.moves (λ ms. Ok (straighten t ms)) h (λ ms. tt))
+
+-- the refusal of a text without moves is no bad byte
+stated_other : (takes : Bool) (n : ℕ) (r : Rest) (s : Stated) → stated takes n r ≡ Ok s → RefusesOther s.moves
+unfolding stated
+stated_other takes n (line k later) s e = by (has_moves takes k) (λ x h. stated_other takes n later x h) e
+  where
+    by : (t : Bool) → ((x : Stated) → stated takes n later ≡ Ok x → RefusesOther x.moves) → cond t (last_moves n k later >>= λ ms. Ok (record { tuples = []; moves = Ok ms })) (tuple_line n k >>= λ t. stated takes n later >>= λ s. Ok (with_tuple t s)) ≡ Ok s → RefusesOther s.moves
+    by true rest e =
+        let p = bind_ok (last_moves n k later) (λ ms. Ok (record { tuples = []; moves = Ok ms })) s e in
+        ok_same (λ (x : Stated). RefusesOther x.moves) (record { tuples = []; moves = Ok p.0 }) s p.2 tt
+    by false rest e =
+        let p = bind_ok (tuple_line n k) (λ t. stated takes n later >>= λ s. Ok (with_tuple t s)) s e in
+        let q = bind_ok (stated takes n later) (λ s. Ok (with_tuple p.0 s)) s p.2 in
+        ok_same (λ (x : Stated). RefusesOther x.moves) (with_tuple p.0 q.0) s q.2 (rest q.0 q.1)
+stated_other takes n (bad_byte l c) s e = absurd (cc)
+stated_other takes n (end l) s e = ok_same (λ (x : Stated). RefusesOther x.moves) (record { tuples = []; moves = Err (errors.BadLine l) }) s e tt
 
 not_other : {A : Type 0} (r : Result A ReadError) (l c : ℕ) → RefusesOther r → r ≡ Err (errors.BadByte l c) → ⊥
 not_other r l c h e = subst RefusesOther e h
 
 -- ---- what is left has the bad byte
-tuples_bad : (n : ℕ) (r : Rest) (l c : ℕ) → tuples_of n r ≡ Err (errors.BadByte l c) → IsBadAt l c r
-unfolding tuples_of
-tuples_bad n (line k later) l c e =
-    elim (bind_err (tuple_line n k) (λ t. tuples_of n later >>= λ ts. Ok (t ∷ ts)) (errors.BadByte l c) e) [
-      | inl here ↦ absurd (not_other (tuple_line n k) l c (line_other n k) here)
-      | inr there ↦ elim (bind_err (tuples_of n later) (λ ts. Ok (there.0 ∷ ts)) (errors.BadByte l c) there.2) [
-        | inl later_bad ↦ tuples_bad n later l c later_bad
-        | inr never ↦ absurd (cc)
+nothing_bad : (r : Rest) (l c : ℕ) → nothing_left r ≡ Err (errors.BadByte l c) → IsBadAt l c r
+nothing_bad (line k later) l c e = absurd (cc)
+nothing_bad (bad_byte m d) l c e = ((cc), (cc))
+nothing_bad (end m) l c e = absurd (cc)
+
+last_bad : (n : ℕ) (k : Kept) (later : Rest) (l c : ℕ) → last_moves n k later ≡ Err (errors.BadByte l c) → IsBadAt l c later
+last_bad n k later l c e =
+    elim (bind_err (given_moves n k) (λ ms. nothing_left later >>= λ none. Ok ms) (errors.BadByte l c) e) [
+      | inl here ↦ absurd (not_other (given_moves n k) l c (given_other n k) here)
+      | inr there ↦ elim (bind_err (nothing_left later) (λ none. Ok there.0) (errors.BadByte l c) there.2) [
+        | inl bad ↦ nothing_bad later l c bad
+        | inr never ↦ (let no = never.2 in absurd (cc))
       ]
     ]
-tuples_bad n (bad_byte m d) l c e = ((cc), (cc))
-tuples_bad n (end m) l c e = absurd (cc)
+
+stated_bad : (takes : Bool) (n : ℕ) (r : Rest) (l c : ℕ) → stated takes n r ≡ Err (errors.BadByte l c) → IsBadAt l c r
+unfolding stated
+stated_bad takes n (line k later) l c e = by (has_moves takes k) (λ h. stated_bad takes n later l c h) e
+  where
+    by : (t : Bool) → (stated takes n later ≡ Err (errors.BadByte l c) → IsBadAt l c later) → cond t (last_moves n k later >>= λ ms. Ok (record { tuples = []; moves = Ok ms })) (tuple_line n k >>= λ t. stated takes n later >>= λ s. Ok (with_tuple t s)) ≡ Err (errors.BadByte l c) → IsBadAt l c later
+    by true rest e = elim (bind_err (last_moves n k later) (λ ms. Ok (record { tuples = []; moves = Ok ms })) (errors.BadByte l c) e) [
+      | inl bad ↦ last_bad n k later l c bad
+      | inr never ↦ (let no = never.2 in absurd (cc))
+    ]
+    by false rest e = elim (bind_err (tuple_line n k) (λ t. stated takes n later >>= λ s. Ok (with_tuple t s)) (errors.BadByte l c) e) [
+      | inl here ↦ absurd (not_other (tuple_line n k) l c (line_other n k) here)
+      | inr there ↦ elim (bind_err (stated takes n later) (λ s. Ok (with_tuple there.0 s)) (errors.BadByte l c) there.2) [
+        | inl later_bad ↦ rest later_bad
+        | inr never ↦ (let no = never.2 in absurd (cc))
+      ]
+    ]
+stated_bad takes n (bad_byte m d) l c e = ((cc), (cc))
+stated_bad takes n (end m) l c e = absurd (cc)
 
 no_rank_bad : {A : Type 0} (r : Result A ReadError) (l c : ℕ) → refused_as no_rank r ≡ Err (errors.BadByte l c) → r ≡ Err (errors.BadByte l c)
 no_rank_bad (Ok x) l c e = absurd (cc)
@@ -128,6 +183,8 @@ no_rank_bad (Err (errors.BadLine m)) l c e = absurd (cc)
 no_rank_bad (Err (errors.TooManyWords m count)) l c e = e
 no_rank_bad (Err (errors.BadLetter m d)) l c e = e
 no_rank_bad (Err (errors.LongTuple m length)) l c e = e
+no_rank_bad (Err (errors.TooManyMoves m count)) l c e = e
+no_rank_bad (Err (errors.BadMove m d)) l c e = e
 no_rank_bad (Err (errors.TupleCount expected found)) l c e = e
 no_rank_bad (Err (errors.SizeMismatch first second)) l c e = e
 no_rank_bad (Err (errors.NoCertificate m)) l c e = e
@@ -160,11 +217,12 @@ behind_bad command p n l c e h =
 lines_bad : (command : Command) (p : Reading) (l c : ℕ) → problem_after command p ≡ Err (errors.BadByte l c) → IsBadAt l c p.rest
 unfolding problem_after
 lines_bad command p l c e =
-    elim (bind_err (rank_after command p) (λ n. tuples_of n.0 n.1.rest >>= λ ts. problem_with command ts) (errors.BadByte l c) e) [
+    let takes = takes_moves command in
+    elim (bind_err (rank_after command p) (λ n. stated takes n.0 n.1.rest >>= λ s. problem_with command s) (errors.BadByte l c) e) [
       | inl here ↦ rank_bad command p l c here
-      | inr there ↦ elim (bind_err (tuples_of there.0.0 there.0.1.rest) (λ ts. problem_with command ts) (errors.BadByte l c) there.2) [
-        | inl bad ↦ behind_bad command p there.0 l c there.1 (tuples_bad there.0.0 there.0.1.rest l c bad)
-        | inr never ↦ absurd (not_other (problem_with command never.0) l c (with_other command never.0) never.2)
+      | inr there ↦ elim (bind_err (stated takes there.0.0 there.0.1.rest) (λ s. problem_with command s) (errors.BadByte l c) there.2) [
+        | inl bad ↦ behind_bad command p there.0 l c there.1 (stated_bad takes there.0.0 there.0.1.rest l c bad)
+        | inr never ↦ absurd (not_other (problem_with command never.0) l c (with_other command never.0 (stated_other takes there.0.0 there.0.1.rest never.0 never.1)) never.2)
       ]
     ]
 

@@ -26,7 +26,7 @@ use Rattle.wh_data.specs.declared.command.Command.TheVariants as commands
 use Rattle.wh_text.specs.RankLines.{greatest_rank, rank_at, rank_after}
 use Rattle.wh_data.specs.AnswerData.VerdictData.{yes, no_length, no_level}
 use Rattle.wh_data.specs.AnswerData.AnswerData.{reduce, decide}
-use Rattle.wh_data.specs.Commands.{heading_row}
+use Rattle.wh_data.specs.Commands.{is_checked, heading_row}
 use Rattle.wh_data.specs.AnswerTexts.{done_row}
 use Rattle.wh_text.proofs.CommandNames.{heading_shown}
 use Rattle.wh_text.specs.Certificates.{in_answer, tuple_after, like_after, moves_after, side_after, level_after, VerdictWord, verdict_in, sides_after, verdict_with, verdict_after, AnswerRead, reduced_after, decided_after, answer_with, heading_in, heading_after, done_after, with_end, answer_after}
@@ -105,20 +105,22 @@ completes_decided n some h =
     (λ t _ _. completes_then (verdict_after n (length s.words)) (λ v. Ok (record { answer = decide s t v.0.verdict; heads = v.0.heads }, v.1)) (IsVerdictRead n (length s.words)) (λ v. Nothing (record { answer = decide s t v.verdict; heads = v.heads }))
     (exact_verdict n (length s.words) h) (completes_verdict n (length s.words) some h few) (λ v _ _. completes_none (record { answer = decide s t v.verdict; heads = v.heads }))))
 
-completes_told : (c : Command) (n : ℕ) → 1 ≤ n → n ≤ most_rank → Completes (answer_with c n) (Told c n)
-completes_told commands.Reduce n some h = completes_reduced n some h
-completes_told commands.Decide n some h = completes_decided n some h
+completes_told : (c : Command) (n : ℕ) → is_checked c ≡ true → 1 ≤ n → n ≤ most_rank → Completes (answer_with c n) (Told c n)
+completes_told commands.Reduce n checked some h = completes_reduced n some h
+completes_told commands.Decide n checked some h = completes_decided n some h
+completes_told commands.Straighten n checked some h = absurd (cc)
 
 -- ---- the heading and the rank
 completes_heading : Completes heading_after (OneRow HeadingIs)
 unfolding heading_after
 completes_heading =
-    completes_line (codes "whitehead") (λ k. heading_in k.number k.fields) HeadingIs (heading_row commands.Reduce) commands.Reduce refl (heading_shown commands.Reduce)
+    completes_line (codes "whitehead") (λ k. heading_in k.number k.fields) HeadingIs (heading_row commands.Reduce) commands.Reduce (refl, refl) (heading_shown commands.Reduce)
     (λ k m e. heading_in_line k.number m k.fields e)
 
 some_rank : (c : Command) → 1 ≤ greatest_rank c
 some_rank commands.Reduce = omega arith
 some_rank commands.Decide = omega arith
+some_rank commands.Straighten = omega arith
 
 completes_rank : (c : Command) → Completes (λ p. refused_as in_answer (rank_after c p)) (OneRow (RankIs c))
 unfolding rank_after line_after
@@ -175,8 +177,8 @@ completes_body : Completes body Body
 completes_body =
     completes_then heading_after (λ c. refused_as in_answer (rank_after c.0 c.1) >>= λ n. answer_with c.0 n.0 n.1) (OneRow HeadingIs) (λ c. Then (OneRow (RankIs c)) (Told c))
     exact_heading completes_heading
-    (λ c _ _. completes_then (λ p. refused_as in_answer (rank_after c p)) (λ n. answer_with c n.0 n.1) (OneRow (RankIs c)) (Told c) (exact_rank c) (completes_rank c)
-    (λ n rows told. completes_told c n told.one.least (omega (arith, told.one.most, rank_within c))))
+    (λ c _ headed. completes_then (λ p. refused_as in_answer (rank_after c p)) (λ n. answer_with c n.0 n.1) (OneRow (RankIs c)) (Told c) (exact_rank c) (completes_rank c)
+    (λ n rows told. completes_told c n headed.one.1 told.one.least (omega (arith, told.one.most, rank_within c))))
 
 -- The rows of a whole certificate.
 abbrev pub IsAnswerRead : List Row → AnswerRead → Type 0

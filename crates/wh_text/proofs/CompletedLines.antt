@@ -7,7 +7,7 @@ use Rattle.std.proofs.lemmas.List.Elements.{All-nil, All-cons, All-map, All-repl
 use Rattle.wh_words.specs.Limits.{most_rank, most_words, most_level_tuples}
 use Rattle.wh_words.specs.Words.{IsOfRank}
 use Rattle.wh_words.specs.CyclicWords.{cyclic_word}
-use Rattle.wh_lines.specs.Readings.{◌>>=◌, items_at, or_bad_line, refused_as}
+use Rattle.wh_lines.specs.Readings.{◌>>=◌, or_bad_line, refused_as}
 use Rattle.wh_lines.specs.Rows.{Row, number_row}
 use Rattle.wh_lines.specs.LineReadings.{times}
 use Rattle.wh_lines.proofs.PrintedRows.{IsShown, IsShownRow, IsShownByte}
@@ -16,7 +16,7 @@ use Rattle.wh_lines.proofs.ExactReadings.{Then, Headed, Nothing, OneRow, Rows, e
 use Rattle.wh_lines.proofs.CompletedReadings.{Completes, completes_none, completes_then, completes_as, completes_line, completes_head, completes_times}
 use Rattle.wh_fields.specs.Words.{letter_text, word_text}
 use Rattle.wh_fields.specs.TupleFields.{tuple_at, words_row}
-use Rattle.wh_fields.specs.MoveFields.{move_at}
+use Rattle.wh_fields.specs.MoveFields.{moves_at}
 use Rattle.wh_fields.specs.FlowFields.{flow_in}
 use Rattle.wh_fields.specs.Laws.{IsPairOf}
 use Rattle.wh_fields.proofs.ShownFields.{shown_from, written_shown, letter_shown, decimal_shown}
@@ -60,7 +60,7 @@ completes_like keyword n count h few =
 pub completes_moves : (keyword : List ℕ) (n : ℕ) → IsShown keyword → Completes (moves_after keyword n) (OneRow (IsMovesRow keyword n))
 unfolding moves_after
 completes_moves keyword n h =
-    completes_line keyword (λ k. items_at (move_at n k.number) k.fields) (IsMovesRow keyword n) (record { keyword = keyword; fields = [] }) []
+    completes_line keyword (λ k. refused_as in_answer (moves_at n k.number k.fields)) (IsMovesRow keyword n) (record { keyword = keyword; fields = [] }) []
     (refl, tt) (record { keyword = h; fields = All-nil IsShown }) (moves_in n)
 
 -- the row of the flow of the first generator where nothing flows

@@ -255,9 +255,13 @@ Decided n =
     Then (OneRow (IsLikeRow (codes "second") n (length s.words))) (λ t.
     Then (IsVerdictRead n (length s.words)) (λ v. Nothing (record { answer = decide s t v.verdict; heads = v.heads }))))
 
+abbrev pub Untold : List Row → AnswerRead → Type 0
+Untold rows a = ⊥
+
 abbrev pub Told : Command → ℕ → List Row → AnswerRead → Type 0
 Told commands.Reduce n = Reduced n
 Told commands.Decide n = Decided n
+Told commands.Straighten n = Untold
 
 exact_reduced : (n : ℕ) → n ≤ 26 → Exact (reduced_after n) (Reduced n)
 unfolding reduced_after
@@ -285,3 +289,4 @@ exact_decided n h =
 pub exact_told : (c : Command) (n : ℕ) → n ≤ 26 → Exact (answer_with c n) (Told c n)
 exact_told commands.Reduce n h = exact_reduced n h
 exact_told commands.Decide n h = exact_decided n h
+exact_told commands.Straighten n h = record { is = λ p q a some e. absurd (cc); back = λ p q a rows told passes. absurd told }

@@ -1,5 +1,5 @@
 -- A certificate is read exactly from a text that is one: for the law on certificates.
-use Rattle.std.proofs.Common.{◌≡◌, ℕ, ◌≤◌, ltb, ◌==◌, cond, List, [], ◌∷◌, ◌++◌, length, map, refl, sym, ap, ◌∙◌, subst, arith, append-nil, Result, Ok, Err}
+use Rattle.std.proofs.Common.{◌≡◌, ℕ, ◌≤◌, ltb, ◌==◌, true, cond, List, [], ◌∷◌, ◌++◌, length, map, refl, sym, ap, ◌∙◌, subst, arith, append-nil, Result, Ok, Err}
 use Rattle.std.specs.Prelude.{codes, decimal}
 use Rattle.std.proofs.lemmas.Bool.{cond-false, eqb-true}
 use Rattle.wh_words.specs.Limits.{most_rank, most_level_rank}
@@ -23,8 +23,8 @@ use Rattle.wh_data.specs.declared.command.Command.TheVariants as commands
 use Rattle.wh_data.specs.Limits.{most_answer_bytes}
 use Rattle.wh_text.specs.RankLines.{greatest_rank, rank_at, no_rank, rank_after}
 use Rattle.wh_data.specs.AnswerData.{AnswerData, CertificateData}
-use Rattle.wh_data.specs.AnswerData.AnswerData.{reduce, decide}
-use Rattle.wh_data.specs.Commands.{command_name, answer_version, heading_row}
+use Rattle.wh_data.specs.AnswerData.AnswerData.{reduce, decide, straighten}
+use Rattle.wh_data.specs.Commands.{command_name, is_checked, answer_version, heading_row}
 use Rattle.wh_data.specs.AnswerTexts.{verdict_row, done_row}
 use Rattle.wh_text.proofs.CommandNames.{heading_told, heading_back}
 use Rattle.wh_text.specs.Certificates.{in_answer, AnswerRead, answer_with, heading_in, heading_after, done_after, with_end, answer_after, certificate}
@@ -35,14 +35,14 @@ use Rattle.wh_text.proofs.ExactAnswers.{one_then, then_one, alone, Reduced, Deci
 
 -- ---- the heading
 abbrev pub HeadingIs : Row → Command → Type 0
-HeadingIs r c = r ≡ heading_row c
+HeadingIs r c = (r ≡ heading_row c) × (is_checked c ≡ true)
 
 pub exact_heading : Exact heading_after (OneRow HeadingIs)
 unfolding heading_after
 exact_heading =
     exact_line (codes "whitehead") (λ k. heading_in k.number k.fields) HeadingIs
-    (λ k c some is e. same_row k (codes "whitehead") (answer_version ∷ command_name c ∷ []) is (heading_told k.number k.fields c e))
-    (λ r k c tells is. (ap (λ (x : Row). x.keyword) is, heading_back k.number c k.fields (tells.same ∙ ap (λ (x : Row). x.fields) is)))
+    (λ k c some is e. let told = heading_told k.number k.fields c e in (same_row k (codes "whitehead") (answer_version ∷ command_name c ∷ []) is told.0, told.1))
+    (λ r k c tells is. (ap (λ (x : Row). x.keyword) is.0, heading_back k.number c k.fields is.1 (tells.same ∙ ap (λ (x : Row). x.fields) is.0)))
 
 -- ---- the rank
 pub record RankIs (c : Command) (r : Row) (n : ℕ) : Type 0 where
@@ -118,23 +118,24 @@ decided_there n rows x least most s =
 told_there : (c : Command) (n : ℕ) (rows : List Row) (x : AnswerRead) → 1 ≤ n → n ≤ greatest_rank c → Told c n rows x → IsAnswerText (heading_row c ∷ number_row (codes "rank") n ∷ rows ++ done_row ∷ []) x.answer x.heads
 told_there commands.Reduce n rows x least most s = reduced_there n rows x least most s
 told_there commands.Decide n rows x least most s = decided_there n rows x least most s
+told_there commands.Straighten n rows x least most s = absurd s
 
 pub body_there : (rows : List Row) (x : AnswerRead) → Body rows x → IsAnswerText (rows ++ done_row ∷ []) x.answer x.heads
 body_there rows x s =
     let h = one_then _ _ rows x s in
     let g = one_then _ _ h.later x h.two in
     let parts : rows ≡ heading_row h.x ∷ number_row (codes "rank") g.x ∷ g.later =
-    h.parts ∙ ap (λ rs. h.head ∷ rs) g.parts ∙ ap (λ r. r ∷ g.head ∷ g.later) h.one ∙ ap (λ r. heading_row h.x ∷ r ∷ g.later) g.one.spelled in
+    h.parts ∙ ap (λ rs. h.head ∷ rs) g.parts ∙ ap (λ r. r ∷ g.head ∷ g.later) h.one.0 ∙ ap (λ r. heading_row h.x ∷ r ∷ g.later) g.one.spelled in
     subst (λ (rs : List Row). IsAnswerText (rs ++ done_row ∷ []) x.answer x.heads) (sym parts) (told_there h.x g.x g.later x g.one.least g.one.most g.two)
 
-headed_back : (c : Command) (n : ℕ) (rows : List Row) (x : AnswerRead) → 1 ≤ n → n ≤ greatest_rank c → Told c n rows x → Body (heading_row c ∷ number_row (codes "rank") n ∷ rows) x
-headed_back c n rows x least most s =
+headed_back : (c : Command) (n : ℕ) (rows : List Row) (x : AnswerRead) → is_checked c ≡ true → 1 ≤ n → n ≤ greatest_rank c → Told c n rows x → Body (heading_row c ∷ number_row (codes "rank") n ∷ rows) x
+headed_back c n rows x checked least most s =
     then_one HeadingIs (λ c. Then (OneRow (RankIs c)) (Told c)) (heading_row c ∷ number_row (codes "rank") n ∷ rows) x (record {
       x = c;
       head = heading_row c;
       later = number_row (codes "rank") n ∷ rows;
       parts = refl;
-      one = refl;
+      one = (refl, checked);
       two = then_one (RankIs c) (Told c) (number_row (codes "rank") n ∷ rows) x (record {
         x = n;
         head = number_row (codes "rank") n;
@@ -149,7 +150,7 @@ body_again : (rows : List Row) (a : AnswerData) (heads : List (ℕ × ℕ)) → 
 body_again rows (reduce t s) heads is = (
   heading_row commands.Reduce ∷ number_row (codes "rank") t.rank ∷ is.0 ∷ is.1,
   is.2,
-  headed_back commands.Reduce t.rank (is.0 ∷ is.1) (record { answer = reduce t s; heads = heads }) is.3 is.4 (record {
+  headed_back commands.Reduce t.rank (is.0 ∷ is.1) (record { answer = reduce t s; heads = heads }) refl is.3 is.4 (record {
     x = t;
     first = is.0 ∷ [];
     second = is.1;
@@ -161,7 +162,7 @@ body_again rows (reduce t s) heads is = (
 body_again rows (decide s t v) heads is = (
   heading_row commands.Decide ∷ number_row (codes "rank") s.rank ∷ is.0 ∷ is.1 ∷ verdict_row v ∷ is.2,
   is.3,
-  headed_back commands.Decide s.rank (is.0 ∷ is.1 ∷ verdict_row v ∷ is.2) (record { answer = decide s t v; heads = heads }) is.4 is.5 (record {
+  headed_back commands.Decide s.rank (is.0 ∷ is.1 ∷ verdict_row v ∷ is.2) (record { answer = decide s t v; heads = heads }) refl is.4 is.5 (record {
     x = s;
     first = is.0 ∷ [];
     second = is.1 ∷ verdict_row v ∷ is.2;
@@ -184,6 +185,8 @@ body_again rows (decide s t v) heads is = (
     };
   }),
 )
+
+body_again rows (straighten t given ms u) heads is = absurd is
 
 -- ---- the last line
 pub no_length_fields : (fs : List Field) → length fs ≡ 0 → map (λ f. f.bytes) fs ≡ []

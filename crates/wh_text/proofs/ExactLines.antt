@@ -19,7 +19,7 @@ use Rattle.wh_lines.proofs.FieldLaws.{AreSome}
 use Rattle.wh_lines.proofs.NumberLaws.{reads_numbers}
 use Rattle.wh_lines.proofs.RowReadings.{Tells}
 use Rattle.wh_lines.proofs.ExactReadings.{row_of, Exact, Then, Headed, Nothing, OneRow, Rows, exact_none, exact_then, exact_head, exact_line, exact_as, exact_times}
-use Rattle.wh_fields.specs.MoveFields.{kind_in, move_with, move_at}
+use Rattle.wh_fields.specs.MoveFields.{kind_in, move_with, or_bad_move, move_at, moves_at}
 use Rattle.wh_fields.specs.TupleFields.{tuple_at, words_row}
 use Rattle.wh_fields.specs.FlowFields.{FlowData, flow_in}
 use Rattle.wh_fields.specs.Laws.{IsMoveField, IsFlowLine}
@@ -63,35 +63,35 @@ exact_like keyword n count h =
     (back.0, ap (λ q. q >>= λ t. cond (length t.words == count) (Ok t) (Err (errors.BadLine k.number))) back.1 ∙ cond-true (length t.words == count) (Ok t) (Err (errors.BadLine k.number)) (eq_true (length t.words) count is.1)))
 
 -- ---- moves
-move_told : (n l : ℕ) (o : Option Kind) (m : Move) → or_bad_line l (move_with n o) ≡ Ok m → (k : Kind) × (o ≡ Some k) × (record { rank = n; kind = k } ≡ m)
-move_told n l None m e = absurd (cc)
-move_told n l (Some k) m e = (k, refl, ok_is (record { rank = n; kind = k }) m e)
+move_told : (n l c : ℕ) (o : Option Kind) (m : Move) → or_bad_move l c (move_with n o) ≡ Ok m → (k : Kind) × (o ≡ Some k) × (record { rank = n; kind = k } ≡ m)
+move_told n l c None m e = absurd (cc)
+move_told n l c (Some k) m e = (k, refl, ok_is (record { rank = n; kind = k }) m e)
 
-moves_are : (n l : ℕ) (fs : List Field) (ms : List Move) → n ≤ 26 → items_at (move_at n l) fs ≡ Ok ms → AreMoveFields n (map (λ f. f.bytes) fs) ms
+pub moves_are : (n l : ℕ) (fs : List Field) (ms : List Move) → n ≤ 26 → moves_at n l fs ≡ Ok ms → AreMoveFields n (map (λ f. f.bytes) fs) ms
 unfolding items_at
 moves_are n l [] ms h e = ok_same (AreMoveFields n []) [] ms e tt
 moves_are n l (f ∷ fs) ms h e =
-    let a = bind_ok (move_at n l f) (λ x. items_at (move_at n l) fs >>= λ xs. Ok (x ∷ xs)) ms e in
-    let b = bind_ok (items_at (move_at n l) fs) (λ xs. Ok (a.0 ∷ xs)) ms a.2 in
-    let t = move_told n l (kind_in n f.bytes) a.0 a.1 in
+    let a = bind_ok (move_at n l f) (λ x. moves_at n l fs >>= λ xs. Ok (x ∷ xs)) ms e in
+    let b = bind_ok (moves_at n l fs) (λ xs. Ok (a.0 ∷ xs)) ms a.2 in
+    let t = move_told n l f.column (kind_in n f.bytes) a.0 a.1 in
     let is : IsMoveField n f.bytes a.0.kind = subst (IsMoveField n f.bytes) (ap (λ (m : Move). m.kind) t.2) ((reads_moves n f.bytes t.0 h).0 t.1) in
     ok_same (AreMoveFields n (f.bytes ∷ map (λ f. f.bytes) fs)) (a.0 ∷ b.0) ms b.2 (sym (ap (λ (m : Move). m.rank) t.2), is, moves_are n l fs b.0 h b.1)
 
-moves_back : (n l : ℕ) (fs : List Field) (ms : List Move) → n ≤ 26 → AreMoveFields n (map (λ f. f.bytes) fs) ms → items_at (move_at n l) fs ≡ Ok ms
+pub moves_back : (n l : ℕ) (fs : List Field) (ms : List Move) → n ≤ 26 → AreMoveFields n (map (λ f. f.bytes) fs) ms → moves_at n l fs ≡ Ok ms
 unfolding items_at
 moves_back n l [] [] h a = refl
 moves_back n l [] (m ∷ ms) h a = absurd a
 moves_back n l (f ∷ fs) [] h a = absurd a
 moves_back n l (f ∷ fs) (m ∷ ms) h a =
-    let one : move_at n l f ≡ Ok m = ap (λ o. or_bad_line l (move_with n o)) ((reads_moves n f.bytes m.kind h).1 a.1) ∙ ap (λ k. Ok (record { rank = k; kind = m.kind })) (sym a.0) in
-    ap (λ r. r >>= λ x. items_at (move_at n l) fs >>= λ xs. Ok (x ∷ xs)) one ∙ ap (λ r. r >>= λ xs. Ok (m ∷ xs)) (moves_back n l fs ms h a.2)
+    let one : move_at n l f ≡ Ok m = ap (λ o. or_bad_move l f.column (move_with n o)) ((reads_moves n f.bytes m.kind h).1 a.1) ∙ ap (λ k. Ok (record { rank = k; kind = m.kind })) (sym a.0) in
+    ap (λ r. r >>= λ x. moves_at n l fs >>= λ xs. Ok (x ∷ xs)) one ∙ ap (λ r. r >>= λ xs. Ok (m ∷ xs)) (moves_back n l fs ms h a.2)
 
 pub exact_moves : (keyword : List ℕ) (n : ℕ) → n ≤ 26 → Exact (moves_after keyword n) (OneRow (IsMovesRow keyword n))
 unfolding moves_after
 exact_moves keyword n h =
-    exact_line keyword (λ k. items_at (move_at n k.number) k.fields) (IsMovesRow keyword n)
-    (λ k ms some is e. (is, moves_are n k.number k.fields ms h e))
-    (λ r k ms tells is. (is.0, moves_back n k.number k.fields ms h (subst (λ (fs : List (List ℕ)). AreMoveFields n fs ms) (sym tells.same) is.1)))
+    exact_line keyword (λ k. refused_as in_answer (moves_at n k.number k.fields)) (IsMovesRow keyword n)
+    (λ k ms some is e. (is, moves_are n k.number k.fields ms h (refused_ok in_answer (moves_at n k.number k.fields) ms e)))
+    (λ r k ms tells is. (is.0, ap (refused_as in_answer) (moves_back n k.number k.fields ms h (subst (λ (fs : List (List ℕ)). AreMoveFields n fs ms) (sym tells.same) is.1))))
 
 -- ---- flows
 flow_told : (l : ℕ) (o : Option FlowData) (d : FlowData) → or_bad_line l o ≡ Ok d → o ≡ Some d

@@ -6,6 +6,7 @@ use Rattle.std.specs.List.{sum_by}
 use Rattle.wh_words.specs.Limits.{most_rank, most_words, most_letters, most_level_tuples}
 use Rattle.wh_words.specs.CyclicWords.{cyclic_word}
 use Rattle.wh_words.specs.Tuples.{TupleData}
+use Rattle.wh_words.specs.Moves.{Move}
 use Rattle.wh_lines.specs.declared.read_error.ReadError.{ReadError}
 use Rattle.wh_lines.specs.declared.read_error.ReadError.TheVariants as errors
 use Rattle.wh_lines.specs.Lines.{Field, lines, are}
@@ -18,12 +19,12 @@ use Rattle.wh_lines.proofs.Equations.{bind_err, err_is}
 use Rattle.wh_lines.proofs.LocalReadings.{Agree, rest_agree, Past, Alike, went, refused, past, InLine, Local, local_none, local_then, local_by, local_head, local_line, local_times, local_end, items_err, bad_line_is}
 use Rattle.wh_fields.specs.Words.{letter_of, letter_at, letters_at, word_at}
 use Rattle.wh_fields.specs.TupleFields.{words_at, short_tuple, tuple_at}
-use Rattle.wh_fields.specs.MoveFields.{kind_in, move_with, move_at}
+use Rattle.wh_fields.specs.MoveFields.{kind_in, move_with, or_bad_move, move_at, moves_at}
 use Rattle.wh_fields.specs.FlowFields.{flow_in}
 use Rattle.wh_data.specs.declared.command.Command.{Command}
 use Rattle.wh_data.specs.declared.command.Command.TheVariants as commands
 use Rattle.wh_data.specs.Limits.{most_answer_bytes}
-use Rattle.wh_data.specs.Commands.{command_named, is_unchecked_name, answer_version}
+use Rattle.wh_data.specs.Commands.{command_named, is_checked, is_unchecked_name, answer_version}
 use Rattle.wh_text.specs.RankLines.{greatest_rank, rank_at, rank_number, no_rank, rank_after}
 use Rattle.wh_data.specs.AnswerData.{CertificateData}
 use Rattle.wh_data.specs.AnswerData.VerdictData.{yes, no_length, no_level}
@@ -101,12 +102,19 @@ unfolding like_after
 local_like l keyword n count = local_line l keyword (like_of n count) (like_in n count)
 
 -- ---- moves and flows
-pub moves_in : (n : ℕ) → InLine (λ k. items_at (move_at n k.number) k.fields)
-moves_in n k m e = items_err (λ d. d ≡ errors.BadLine m → k.number ≡ m) (move_at n k.number) (λ f d h same. bad_line_is k.number m (move_with n (kind_in n f.bytes)) (h ∙ ap (λ x. Err x) same)) k.fields (errors.BadLine m) e refl
+move_err : (l c : ℕ) (o : Option Move) (d : ReadError) → or_bad_move l c o ≡ Err d → in_answer d ≡ errors.BadLine l
+move_err l c None d e = ap in_answer (sym (err_is (errors.BadMove l c) d e))
+move_err l c (Some m) d e = absurd (cc)
+
+moves_err : (n l : ℕ) (fs : List Field) (d : ReadError) → moves_at n l fs ≡ Err d → in_answer d ≡ errors.BadLine l
+moves_err n l fs d e = items_err (λ d. in_answer d ≡ errors.BadLine l) (move_at n l) (λ f d h. move_err l f.column (move_with n (kind_in n f.bytes)) d h) fs d e
+
+pub moves_in : (n : ℕ) → InLine (λ k. refused_as in_answer (moves_at n k.number k.fields))
+moves_in n k l e = refused_err (moves_at n k.number k.fields) l k.number (λ d h. moves_err n k.number k.fields d h) e
 
 local_moves : (l : ℕ) (keyword : List ℕ) (n : ℕ) → Local l (moves_after keyword n)
 unfolding moves_after
-local_moves l keyword n = local_line l keyword (λ k. items_at (move_at n k.number) k.fields) (moves_in n)
+local_moves l keyword n = local_line l keyword (λ k. refused_as in_answer (moves_at n k.number k.fields)) (moves_in n)
 
 local_flow : (l n : ℕ) → Local l (flow_after n)
 unfolding flow_after
@@ -191,6 +199,7 @@ local_decided l n =
 local_told : (l : ℕ) (c : Command) (n : ℕ) → Local l (answer_with c n)
 local_told l commands.Reduce n = local_reduced l n
 local_told l commands.Decide n = local_decided l n
+local_told l commands.Straighten n = record { alike = λ p q h. refused (errors.NoCertificate 1) (errors.NoCertificate 1); far = λ p h same. absurd (cc) }
 
 -- ---- the heading and the rank
 pub heading_in_line : (m l : ℕ) (fs : List Field) → heading_in m fs ≡ Err (errors.BadLine l) → m ≡ l
@@ -198,8 +207,12 @@ heading_in_line m l [] e = cc
 heading_in_line m l (f ∷ []) e = cc
 heading_in_line m l (f ∷ g ∷ []) e = by (are f.bytes answer_version) e
   where
+    checked : (t : Bool) (command : Command) → ◌≡◌ {A = Result Command ReadError} (cond t (Ok command) (Err (errors.NoCertificate m))) (Err (errors.BadLine l)) → m ≡ l
+    checked true command e = absurd (cc)
+    checked false command e = absurd (cc)
+
     named : (found : Option Command) → checked_command m g.bytes found ≡ Err (errors.BadLine l) → m ≡ l
-    named (Some command) e = absurd (cc)
+    named (Some command) e = checked (is_checked command) command e
     named None e = bad_unless (is_unchecked_name g.bytes) m l e
 
     by : (s : Bool) → cond s (command_at m g.bytes) (Err (errors.BadLine m)) ≡ Err (errors.BadLine l) → m ≡ l

@@ -1,6 +1,7 @@
 pub mod RankLaws
 pub mod CommandNames
-pub mod ProblemTuples
+pub mod StatedLines
+pub mod StatedRows
 pub mod ProblemLaws
 pub mod BadByteLaws
 pub mod ReadSides

@@ -11,8 +11,8 @@ use Rattle.wh_data.specs.declared.command.Command.TheVariants as commands
 use Rattle.wh_lines.specs.declared.read_error.ReadError.{ReadError}
 use Rattle.wh_lines.specs.declared.read_error.ReadError.TheVariants as errors
 use Rattle.wh_lines.specs.Lines.{Field}
-use Rattle.wh_lines.specs.Readings.{◌>>=◌, items_at, or_bad_line, refused_as}
-use Rattle.wh_fields.specs.MoveFields.{kind_in, move_with, move_at}
+use Rattle.wh_lines.specs.Readings.{◌>>=◌, or_bad_line, refused_as}
+use Rattle.wh_fields.specs.MoveFields.{kind_in, move_with, or_bad_move, move_at, moves_at}
 use Rattle.wh_fields.specs.FlowFields.{FlowData, flow_in}
 use Rattle.wh_fields.specs.TupleFields.{tuple_at}
 use Rattle.wh_text.specs.RankLines.{greatest_rank, rank_at, no_rank, rank_after}
@@ -52,16 +52,17 @@ like_took keyword n count p r e =
     let same = (if_ok (length b.0.words == count) (errors.BadLine k.0.number) (Ok b.0) a.0 b.2).1 in
     (a.0, ok_same (λ (t : TupleData). t.rank ≡ n) b.0 a.0 same (tuple_rank n k.0.number k.0.fields b.0 b.1), a.2)) e
 
-kind_rank : (n l : ℕ) (o : Option Kind) (m : Move) → or_bad_line l (move_with n o) ≡ Ok m → m.rank ≡ n
-kind_rank n l None m e = absurd (cc)
-kind_rank n l (Some kind) m e = sym (ap (λ (v : Move). v.rank) (ok_is (record { rank = n; kind = kind }) m e))
+kind_rank : (n l c : ℕ) (o : Option Kind) (m : Move) → or_bad_move l c (move_with n o) ≡ Ok m → m.rank ≡ n
+kind_rank n l c None m e = absurd (cc)
+kind_rank n l c (Some kind) m e = sym (ap (λ (v : Move). v.rank) (ok_is (record { rank = n; kind = kind }) m e))
 
 moves_took : (keyword : List ℕ) (n : ℕ) (p : Reading) (r : List Move × Reading) → moves_after keyword n p ≡ Ok r → Took (All (λ m. m.rank ≡ n)) 1 p r
 unfolding moves_after
 moves_took keyword n p r e =
-    one_line (All (λ m. m.rank ≡ n)) keyword (λ k. items_at (move_at n k.0.number) k.0.fields >>= λ ms. Ok (ms, k.1)) p r (λ k h.
-    let a = bind_ok (items_at (move_at n k.0.number) k.0.fields) (λ ms. Ok (ms, k.1)) r h in
-    (a.0, items_told (λ m. m.rank ≡ n) (move_at n k.0.number) (λ f m. kind_rank n k.0.number (kind_in n f.bytes) m) k.0.fields a.0 a.1, a.2)) e
+    one_line (All (λ m. m.rank ≡ n)) keyword (λ k. refused_as in_answer (moves_at n k.0.number k.0.fields) >>= λ ms. Ok (ms, k.1)) p r (λ k h.
+    let a = bind_ok (refused_as in_answer (moves_at n k.0.number k.0.fields)) (λ ms. Ok (ms, k.1)) r h in
+    let b = refused_ok in_answer (moves_at n k.0.number k.0.fields) a.0 a.1 in
+    (a.0, items_told (λ m. m.rank ≡ n) (move_at n k.0.number) (λ f m. kind_rank n k.0.number f.column (kind_in n f.bytes) m) k.0.fields a.0 b, a.2)) e
 
 -- ---- sides
 flow_took : (n : ℕ) (p : Reading) (r : FlowData × Reading) → flow_after n p ≡ Ok r → Took (λ _. Unit {0}) 1 p r
@@ -198,6 +199,7 @@ decided_took n p r small e =
 answer_with_took : (command : Command) (n : ℕ) (p : Reading) (r : AnswerRead × Reading) → n ≤ greatest_rank command → answer_with command n p ≡ Ok r → TookAnswer p r
 answer_with_took commands.Reduce n p r small e = reduced_took n p r e
 answer_with_took commands.Decide n p r small e = decided_took n p r small e
+answer_with_took commands.Straighten n p r small e = absurd (cc)
 
 -- ---- the text
 heading_took : (p : Reading) (r : Command × Reading) → heading_after p ≡ Ok r → Took (λ _. Unit {0}) 1 p r

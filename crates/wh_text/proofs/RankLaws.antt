@@ -23,6 +23,7 @@ is_in_range most k m h g = (grind (arith, nat_tests), grind (arith, nat_tests))
 pub rank_within : (command : Command) → greatest_rank command ≤ 26
 rank_within commands.Reduce = omega arith
 rank_within commands.Decide = omega arith
+rank_within commands.Straighten = omega arith
 
 number_is : (command : Command) (l n : ℕ) (o : Option ℕ) → rank_number command l o ≡ Ok n → (o ≡ Some n) × (1 ≤ n) × (n ≤ greatest_rank command)
 number_is command l n None e = absurd (cc)

@@ -1,5 +1,5 @@
 -- An answer is read back from its rows: for the law on printed answers.
-use Rattle.std.proofs.Common.{◌≡◌, ℕ, ◌≤◌, ◌==◌, cond, List, [], ◌∷◌, ◌++◌, length, sym, ap, ◌∙◌, refl, arith, Ok, Err}
+use Rattle.std.proofs.Common.{◌≡◌, ℕ, ◌≤◌, ◌==◌, true, cond, List, [], ◌∷◌, ◌++◌, length, sym, ap, ◌∙◌, refl, arith, Ok, Err}
 use Rattle.std.specs.Prelude.{codes, decimal}
 use Rattle.std.specs.List.{All}
 use Rattle.std.proofs.lemmas.List.Elements.{All-nil, All-cons, All-append, All-push}
@@ -12,7 +12,7 @@ use Rattle.wh_lines.specs.KeptLines.Rest.{end}
 use Rattle.wh_lines.specs.LineReadings.{Reading, end_of, end_after}
 use Rattle.wh_text.specs.RankLines.{greatest_rank, rank_at, no_rank, rank_after}
 use Rattle.wh_data.specs.AnswerData.{SideData, VerdictData, AnswerData}
-use Rattle.wh_data.specs.AnswerData.AnswerData.{reduce, decide}
+use Rattle.wh_data.specs.AnswerData.AnswerData.{reduce, decide, straighten}
 use Rattle.wh_text.specs.Certificates.{tuple_after, like_after, side_after, verdict_after, AnswerRead, reduced_after, decided_after, answer_with, heading_in, heading_after, in_answer, with_end, done_after, answer_after}
 use Rattle.wh_fields.specs.TupleFields.{IsTupleOf, words_row}
 use Rattle.wh_data.specs.AnswerParts.{IsSideOf, IsVerdictOf, IsCertificate, verdict_heads, heads_of}
@@ -24,19 +24,19 @@ use Rattle.wh_lines.proofs.PrintedRows.{IsShown, IsShownRow}
 use Rattle.wh_lines.proofs.NextLines.{behind, line_there}
 use Rattle.wh_lines.proofs.RowReadings.{ReadsRows, Passes, passes_split, reads_none, row_then, reads_then, reads_as}
 use Rattle.wh_fields.proofs.ShownFields.{written_shown, decimal_shown}
-use Rattle.wh_data.specs.Commands.{heading_row}
+use Rattle.wh_data.specs.Commands.{is_checked, heading_row}
 use Rattle.wh_data.specs.AnswerTexts.{side_rows, verdict_row, verdict_rows, done_row, rows_of}
 use Rattle.wh_text.proofs.CommandNames.{heading_back, heading_shown}
 use Rattle.wh_text.proofs.ReadSides.{tuple_read, like_read, side_told, side_read}
 use Rattle.wh_text.proofs.ReadVerdicts.{verdict_read}
 
 -- ---- the heading
-heading_read : (command : Command) → ReadsRows heading_after command (heading_row command ∷ [])
+heading_read : (command : Command) → is_checked command ≡ true → ReadsRows heading_after command (heading_row command ∷ [])
 unfolding heading_after
-heading_read command =
+heading_read command checked =
     row_then (heading_row command) (λ k. heading_in k.0.number k.0.fields >>= λ c. Ok (c, k.1)) command []
     (heading_shown command)
-    (λ k t. reads_none (λ p. heading_in k.number k.fields >>= λ c. Ok (c, p)) command (λ p. ap (λ r. r >>= λ c. Ok (c, p)) (heading_back k.number command k.fields t.same)))
+    (λ k t. reads_none (λ p. heading_in k.number k.fields >>= λ c. Ok (c, p)) command (λ p. ap (λ r. r >>= λ c. Ok (c, p)) (heading_back k.number command k.fields checked t.same)))
 
 -- ---- the rank
 rank_read : (command : Command) (n : ℕ) → 1 ≤ n → n ≤ greatest_rank command → ReadsRows (λ p. refused_as in_answer (rank_after command p)) n (number_row (codes "rank") n ∷ [])
@@ -98,11 +98,11 @@ pub record TellAnswer (told : AnswerRead) (rows : List Row) : Type 0 where
   pub shown : All IsShownRow rows
   pub read : (p q : Reading) (m : ℕ) → Passes rows p q → q.rest ≡ end m → answer_after p ≡ Ok (told, q)
 
-all_read : (command : Command) (n : ℕ) (told : AnswerRead) (rows : List Row) → 1 ≤ n → n ≤ greatest_rank command → ReadsRows (answer_with command n) told rows →
+all_read : (command : Command) (n : ℕ) (told : AnswerRead) (rows : List Row) → is_checked command ≡ true → 1 ≤ n → n ≤ greatest_rank command → ReadsRows (answer_with command n) told rows →
     TellAnswer told (heading_row command ∷ number_row (codes "rank") n ∷ rows ++ done_row ∷ [])
 unfolding answer_after
-all_read command n told rows l m inner =
-    let heading = heading_read command in
+all_read command n told rows checked l m inner =
+    let heading = heading_read command checked in
     let rank = rank_read command n l m in
     let first = heading_row command ∷ [] in
     let second = number_row (codes "rank") n ∷ [] in
@@ -121,7 +121,8 @@ all_read command n told rows l m inner =
 
 pub answer_read : (a : AnswerData) → IsCertificate a → TellAnswer (record { answer = a; heads = heads_of a }) (rows_of a)
 answer_read (reduce t s) h =
-    all_read commands.Reduce t.rank (record { answer = reduce t s; heads = heads_from 0 s.flows }) (words_row (codes "tuple") t.words ∷ side_rows s) h.1 h.2 (reduced_read t s h.2 h.0 h.3)
+    all_read commands.Reduce t.rank (record { answer = reduce t s; heads = heads_from 0 s.flows }) (words_row (codes "tuple") t.words ∷ side_rows s) refl h.1 h.2 (reduced_read t s h.2 h.0 h.3)
 answer_read (decide s t v) h =
     let few : s.rank ≤ 26 = omega (arith, h.2) in
-    all_read commands.Decide s.rank (record { answer = decide s t v; heads = verdict_heads v }) (words_row (codes "first") s.words ∷ words_row (codes "second") t.words ∷ verdict_row v ∷ verdict_rows v) h.1 h.2 (decided_read s t v few h.0 h.3 h.4)
+    all_read commands.Decide s.rank (record { answer = decide s t v; heads = verdict_heads v }) (words_row (codes "first") s.words ∷ words_row (codes "second") t.words ∷ verdict_row v ∷ verdict_rows v) refl h.1 h.2 (decided_read s t v few h.0 h.3 h.4)
+answer_read (straighten t given ms u) h = absurd h

@@ -12,7 +12,7 @@ use Rattle.wh_lines.specs.declared.read_error.ReadError.TheVariants as errors
 use Rattle.wh_lines.specs.Lines.{Field}
 use Rattle.wh_lines.specs.Readings.{◌>>=◌, items_at, or_bad_line, refused_as}
 use Rattle.wh_fields.specs.Words.{word_text}
-use Rattle.wh_fields.specs.MoveFields.{kind_text, kind_in, move_with, move_at, IsMoveOf, moves_row}
+use Rattle.wh_fields.specs.MoveFields.{kind_text, kind_in, move_with, or_bad_move, move_at, moves_at, IsMoveOf, moves_row}
 use Rattle.wh_fields.specs.FlowFields.{flow_value, FlowData, flow_in, IsFlowOf, heads_from, flow_row, flow_rows}
 use Rattle.wh_fields.specs.TupleFields.{tuple_at, IsTupleOf, words_row}
 use Rattle.wh_lines.specs.LineReadings.{times}
@@ -35,10 +35,10 @@ kind_of n m h = subst (λ (k : ℕ). IsKind k m.kind) h.1 h.0.kind
 
 move_back : (n l : ℕ) (f : Field) (m : Move) → n ≤ 26 → IsMoveOf n m → f.bytes ≡ kind_text m.kind → move_at n l f ≡ Ok m
 move_back n l f m h i e =
-    ap (λ o. or_bad_line l (move_with n o)) (ap (kind_in n) e ∙ kind_back n m.kind h (kind_of n m i))
+    ap (λ o. or_bad_move l f.column (move_with n o)) (ap (kind_in n) e ∙ kind_back n m.kind h (kind_of n m i))
     ∙ ap (λ k. Ok (record { rank = k; kind = m.kind })) (sym i.1)
 
-moves_back : (n l : ℕ) (fs : List Field) (ms : List Move) → n ≤ 26 → All (IsMoveOf n) ms → map (λ f. f.bytes) fs ≡ map (λ m. kind_text m.kind) ms → items_at (move_at n l) fs ≡ Ok ms
+moves_back : (n l : ℕ) (fs : List Field) (ms : List Move) → n ≤ 26 → All (IsMoveOf n) ms → map (λ f. f.bytes) fs ≡ map (λ m. kind_text m.kind) ms → moves_at n l fs ≡ Ok ms
 unfolding items_at
 moves_back n l [] [] h a e = refl
 moves_back n l [] (m ∷ ms) h a e = absurd (cc)
@@ -46,7 +46,7 @@ moves_back n l (f ∷ fs) [] h a e = absurd (cc)
 moves_back n l (f ∷ fs) (m ∷ ms) h a e =
     let first : f.bytes ≡ kind_text m.kind = (cc) in
     let rest : map (λ f. f.bytes) fs ≡ map (λ m. kind_text m.kind) ms = (cc) in
-    ap (λ r. r >>= λ x. items_at (move_at n l) fs >>= λ xs. Ok (x ∷ xs)) (move_back n l f m h (All-head (IsMoveOf n) m ms a) first)
+    ap (λ r. r >>= λ x. moves_at n l fs >>= λ xs. Ok (x ∷ xs)) (move_back n l f m h (All-head (IsMoveOf n) m ms a) first)
     ∙ ap (λ r. r >>= λ xs. Ok (m ∷ xs)) (moves_back n l fs ms h (All-tail (IsMoveOf n) m ms a) rest)
 
 moves_shown : (n : ℕ) (ms : List Move) → n ≤ 26 → All (IsMoveOf n) ms → All IsShown (map (λ m. kind_text m.kind) ms)
@@ -55,8 +55,8 @@ moves_shown n ms h a = All-map IsShown (λ m. kind_text m.kind) ms (All-weaker (
 pub moves_read : (keyword : List ℕ) (n : ℕ) (ms : List Move) → IsShown keyword → n ≤ 26 → All (IsMoveOf n) ms → ReadsRows (moves_after keyword n) ms (moves_row keyword ms ∷ [])
 unfolding moves_after
 moves_read keyword n ms k h a =
-    row_then (moves_row keyword ms) (λ k. items_at (move_at n k.0.number) k.0.fields >>= λ xs. Ok (xs, k.1)) ms [] (record { keyword = k; fields = moves_shown n ms h a })
-    (λ k t. reads_none (λ p. items_at (move_at n k.number) k.fields >>= λ xs. Ok (xs, p)) ms (λ p. ap (λ r. r >>= λ xs. Ok (xs, p)) (moves_back n k.number k.fields ms h a t.same)))
+    row_then (moves_row keyword ms) (λ k. refused_as in_answer (moves_at n k.0.number k.0.fields) >>= λ xs. Ok (xs, k.1)) ms [] (record { keyword = k; fields = moves_shown n ms h a })
+    (λ k t. reads_none (λ p. refused_as in_answer (moves_at n k.number k.fields) >>= λ xs. Ok (xs, p)) ms (λ p. ap (λ r. refused_as in_answer r >>= λ xs. Ok (xs, p)) (moves_back n k.number k.fields ms h a t.same)))
 
 -- ---- tuples
 all_cyclic : (ws : List (List ℕ)) → All (λ w. cyclic_word w ≡ w) ws → ws ≡ map cyclic_word ws

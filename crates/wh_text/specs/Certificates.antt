@@ -1,4 +1,4 @@
--- The text of an answer of `reduce` or `decide` that can be checked, and the first refusal of a text that isn't one.
+-- The text of an answer that can be checked, of `reduce` or `decide`, and the first refusal of a text that isn't one.
 use Rattle.std.specs.Prelude.{ℕ, ◌==◌, leb, ltb, ◌&&◌, ◌||◌, Bool, cond, List, [], ◌∷◌, ◌++◌, length, map, Option, Some, None, is_some, Result, Ok, Err, codes}
 use Rattle.wh_data.specs.Limits.{most_answer_bytes}
 use Rattle.wh_words.specs.Limits.{most_level_tuples}
@@ -9,18 +9,18 @@ use Rattle.wh_data.specs.declared.command.Command.TheVariants as commands
 use Rattle.wh_lines.specs.declared.read_error.ReadError.{ReadError}
 use Rattle.wh_lines.specs.declared.read_error.ReadError.TheVariants as errors
 use Rattle.wh_lines.specs.Lines.{Field, are}
-use Rattle.wh_lines.specs.Readings.{◌>>=◌, items_at, or_bad_line, refused_as}
+use Rattle.wh_lines.specs.Readings.{◌>>=◌, or_bad_line, refused_as}
 use Rattle.wh_lines.specs.Numbers.{number}
 use Rattle.wh_lines.specs.KeptLines.{Kept}
 use Rattle.wh_fields.specs.TupleFields.{tuple_at}
 use Rattle.wh_fields.specs.FlowFields.{FlowData, flow_in}
-use Rattle.wh_data.specs.Commands.{command_named, is_unchecked_name, answer_version}
+use Rattle.wh_data.specs.Commands.{command_named, is_checked, is_unchecked_name, answer_version}
 use Rattle.wh_text.specs.RankLines.{rank_after}
 use Rattle.wh_data.specs.AnswerData.{SideData, VerdictData, AnswerData, CertificateData}
 use Rattle.wh_data.specs.AnswerData.VerdictData.{yes, no_length, no_level}
 use Rattle.wh_data.specs.AnswerData.AnswerData.{reduce, decide}
 use Rattle.wh_lines.specs.LineReadings.{Reading, start, line_after, end_after, times}
-use Rattle.wh_fields.specs.MoveFields.{move_at}
+use Rattle.wh_fields.specs.MoveFields.{moves_at}
 
 -- A refusal of a line with a cause of its own in problems. Here such a line doesn't continue the text.
 abbrev pub in_answer : ReadError → ReadError
@@ -29,6 +29,7 @@ in_answer (errors.RankRange l) = errors.BadLine l
 in_answer (errors.TooManyWords l count) = errors.BadLine l
 in_answer (errors.BadLetter l c) = errors.BadLine l
 in_answer (errors.LongTuple l length) = errors.BadLine l
+in_answer (errors.BadMove l c) = errors.BadLine l
 in_answer e = e
 
 -- The next line has this keyword and a tuple of rank n.
@@ -55,7 +56,7 @@ like_after keyword n count p =
 unfoldable pub moves_after : List ℕ → ℕ → Reading → Result (List Move × Reading) ReadError
 moves_after keyword n p =
     line_after keyword p >>= λ k.
-    items_at (move_at n k.0.number) k.0.fields >>= λ ms.
+    refused_as in_answer (moves_at n k.0.number k.0.fields) >>= λ ms.
     Ok (ms, k.1)
 
 -- The next line tells a flow in rank n.
@@ -204,13 +205,15 @@ decided_after n p =
     tuple_after (codes "first") n p >>= λ s.
     with_second n s.0 s.1
 
+-- The lines of an answer of a command. No heading that is read tells a command whose answers can't be checked.
 abbrev pub answer_with : Command → ℕ → Reading → Result (AnswerRead × Reading) ReadError
 answer_with commands.Reduce n p = reduced_after n p
 answer_with commands.Decide n p = decided_after n p
+answer_with commands.Straighten n p = Err (errors.NoCertificate 1)
 
 -- The command of a name in line l. Answers of other commands are no certificates.
 abbrev pub checked_command : ℕ → List ℕ → Option Command → Result Command ReadError
-checked_command l name (Some command) = Ok command
+checked_command l name (Some command) = cond (is_checked command) (Ok command) (Err (errors.NoCertificate l))
 checked_command l name None = cond (is_unchecked_name name) (Err (errors.NoCertificate l)) (Err (errors.BadLine l))
 
 abbrev pub command_at : ℕ → List ℕ → Result Command ReadError

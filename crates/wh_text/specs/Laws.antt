@@ -5,14 +5,16 @@ use Rattle.wh_words.specs.Limits.{most_rank, most_level_rank, most_words, most_l
 use Rattle.wh_words.specs.Words.{IsOfRank}
 use Rattle.wh_words.specs.CyclicWords.{cyclic_word}
 use Rattle.wh_words.specs.Tuples.{TupleData}
+use Rattle.wh_words.specs.Moves.{Move}
 use Rattle.wh_data.specs.declared.command.Command.{Command}
 use Rattle.wh_data.specs.declared.command.Command.TheVariants as commands
 use Rattle.wh_lines.specs.declared.read_error.ReadError.TheVariants as errors
 use Rattle.wh_lines.specs.Lines.{lines, is_allowed}
 use Rattle.wh_fields.specs.Words.{word_text}
-use Rattle.wh_data.specs.ProblemData.ProblemData.{reduce, decide}
+use Rattle.wh_data.specs.ProblemData.ProblemData.{reduce, decide, straighten}
 use Rattle.wh_text.specs.Problems.{problem}
-use Rattle.wh_data.specs.Limits.{most_problem_bytes}
+use Rattle.wh_text.specs.CertificateTexts.{AreMoveFields}
+use Rattle.wh_data.specs.Limits.{most_problem_bytes, most_given_moves}
 use Rattle.wh_lines.specs.Laws.{IsClean, field_texts, kept_lines}
 
 -- The line tells a rank.
@@ -53,6 +55,26 @@ pub record IsDecideText (bytes : List ℕ) (s t : TupleData) : Type 0 where
   pub second : IsTupleLine s.rank second_line t
   pub equal : length s.words ≡ length t.words
 
+-- The line tells moves of rank n, which aren't too many.
+pub record IsMovesLine (n : ℕ) (line : List ℕ) (ms : List Move) : Type 0 where
+  pub fields : List (List ℕ)
+  pub spelled : field_texts line ≡ codes "moves" ∷ fields
+  pub few : length fields ≤ most_given_moves
+  pub told : AreMoveFields n fields ms
+
+-- The text states a problem of `straighten`: its kept lines are a line with a rank, a line with the tuple, and a line with the moves.
+pub record IsStraightenText (bytes : List ℕ) (t : TupleData) (ms : List Move) : Type 0 where
+  pub clean : All IsClean (lines bytes)
+  pub rank_line : List ℕ
+  pub tuple_line : List ℕ
+  pub moves_line : List ℕ
+  pub kept : kept_lines (lines bytes) ≡ rank_line ∷ tuple_line ∷ moves_line ∷ []
+  pub rank : IsRankLine t.rank rank_line
+  pub least : 1 ≤ t.rank
+  pub greatest : t.rank ≤ most_rank
+  pub tuple : IsTupleLine t.rank tuple_line t
+  pub moves : IsMovesLine t.rank moves_line ms
+
 -- A problem of `reduce` is read exactly from a text that states it and isn't too long.
 abbrev pub ReadsReduceTexts : Type 0
 ReadsReduceTexts = (bytes : List ℕ) (t : TupleData) → (problem commands.Reduce bytes ≡ Ok (reduce t)) ↔ ((length bytes ≤ most_problem_bytes) × IsReduceText bytes t)
@@ -60,6 +82,10 @@ ReadsReduceTexts = (bytes : List ℕ) (t : TupleData) → (problem commands.Redu
 -- A problem of `decide` is read exactly from a text that states it and isn't too long.
 abbrev pub ReadsDecideTexts : Type 0
 ReadsDecideTexts = (bytes : List ℕ) (s t : TupleData) → (problem commands.Decide bytes ≡ Ok (decide s t)) ↔ ((length bytes ≤ most_problem_bytes) × IsDecideText bytes s t)
+
+-- A problem of `straighten` is read exactly from a text that states it and isn't too long.
+abbrev pub ReadsStraightenTexts : Type 0
+ReadsStraightenTexts = (bytes : List ℕ) (t : TupleData) (ms : List Move) → (problem commands.Straighten bytes ≡ Ok (straighten t ms)) ↔ ((length bytes ≤ most_problem_bytes) × IsStraightenText bytes t ms)
 
 -- Line l is the first with a byte that may not stand there, and the leftmost such byte has this column.
 pub record IsFirstBadByte (bytes : List ℕ) (l column : ℕ) : Type 0 where

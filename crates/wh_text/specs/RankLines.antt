@@ -14,6 +14,7 @@ use Rattle.wh_words.specs.Limits.{most_rank, most_level_rank}
 abbrev pub greatest_rank : Command → ℕ
 greatest_rank commands.Reduce = most_rank
 greatest_rank commands.Decide = most_level_rank
+greatest_rank commands.Straighten = most_rank
 
 -- A rank that the command allows.
 abbrev pub allowed_rank : Command → ℕ → Result ℕ ReadError

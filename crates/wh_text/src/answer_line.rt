@@ -3,6 +3,7 @@ ghost use Rattle.std.specs.Prelude.{◌≡◌, ℕ, ◌≤◌, length, map, IfOk
 ghost use Rattle.wh_lines.specs.Readings.{Gives, or_bad_line, refused_as};
 ghost use Rattle.wh_lines.specs.LineReadings.{Reads, times};
 ghost use Rattle.wh_fields.specs.TupleFields.{tuple_at};
+ghost use Rattle.wh_fields.specs.MoveFields.{moves_at};
 ghost use Rattle.wh_fields.specs.FlowFields.{FlowData, flow_in};
 ghost use Rattle.wh_lines.specs.declared.read_error.ReadError.TheVariants.{BadLine};
 ghost use Rattle.wh_text.specs.Certificates as spec;
@@ -23,6 +24,7 @@ pub fn in_answer(error: ReadError) -> ReadError
         ReadError::TooManyWords { line, .. } => ReadError::BadLine { line },
         ReadError::BadLetter { line, .. } => ReadError::BadLine { line },
         ReadError::LongTuple { line, .. } => ReadError::BadLine { line },
+        ReadError::BadMove { line, .. } => ReadError::BadLine { line },
         other => other,
     }
 }
@@ -89,6 +91,17 @@ pub fn like_after(
     like_of(alloc, rank, count, &kept)
 }
 
+/// The moves of a line. BadLine comes where a field tells none.
+#[tactic(auto, using(wh_lines::proofs::Equations::refused_by))]
+fn moves_of(alloc: Global, rank: Rank, kept: &Kept) -> Result<List<Move>, ReadError>
+    ensures { Gives (λ ms. ms) result (refused_as spec.in_answer (moves_at rank kept.now.number kept.now.fields)) }
+{
+    match read_moves(alloc, rank, kept.number() as u64, kept.fields()) {
+        Ok(moves) => Ok(moves),
+        Err(error) => Err(in_answer(error)),
+    }
+}
+
 /// The moves of the next line, which has this keyword.
 #[tactic(auto, unfolding(crate::specs::Certificates::moves_after))]
 pub fn moves_after(
@@ -100,7 +113,7 @@ pub fn moves_after(
     ensures { Reads (λ ms. ms) result reader.new (spec.moves_after keyword.now rank reader.old) }
 {
     let kept = reader.line_after(keyword)?;
-    read_moves(alloc, rank, kept.number() as u64, kept.fields())
+    moves_of(alloc, rank, &kept)
 }
 
 /// What a `flow` line tells.

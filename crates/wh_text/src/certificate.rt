@@ -42,7 +42,8 @@ fn command_at(line: u64, name: &Field) -> Result<Command, ReadError>
     ensures { Gives (λ c. c) result (spec.command_at line name.now.bytes) }
 {
     match Command::named(name.bytes()) {
-        Some(command) => Ok(command),
+        Some(command) if command.is_checked() => Ok(command),
+        Some(_) => Err(ReadError::NoCertificate { line }),
         None if is_unchecked_name(name.bytes()) => Err(ReadError::NoCertificate { line }),
         None => Err(ReadError::BadLine { line }),
     }
@@ -150,7 +151,7 @@ fn decided_after(alloc: Global, rank: Rank, reader: &mut Reader) -> Result<ReadA
     with_second(alloc, rank, first, reader)
 }
 
-/// The answer of a command that the next lines tell.
+/// The answer of a command that the next lines tell. Its answers can be checked, or else its heading isn't read.
 fn answer_with(
     alloc: Global,
     command: Command,
@@ -162,6 +163,7 @@ fn answer_with(
     match command {
         Command::Reduce => reduced_after(alloc, rank, reader),
         Command::Decide => decided_after(alloc, rank, reader),
+        Command::Straighten => Err(ReadError::NoCertificate { line: 1 }),
     }
 }
 

@@ -12,9 +12,9 @@ mod verdict_reading;
 
 pub use certificate::read_answer;
 pub use problem_reading::read_problem;
-pub use refusal::{print_refusal, refused_words};
+pub use refusal::{print_refusal, print_too_long, refused_words};
 pub use wh_data::{
-    Answer, Bound, Command, MOST_ANSWER_BYTES, MOST_PROBLEM_BYTES, Numbered, Problem, Side, Status,
-    Verdict, print_answer,
+    Answer, Bound, Command, MOST_ANSWER_BYTES, MOST_GIVEN_MOVES, MOST_PROBLEM_BYTES, Numbered,
+    Problem, Side, Status, Verdict, print_answer,
 };
 pub use wh_lines::{ReadError, canonical_number};

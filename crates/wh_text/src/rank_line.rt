@@ -16,6 +16,7 @@ fn greatest_rank(command: Command) -> u64
     match command {
         Command::Reduce => MOST_RANK as u64,
         Command::Decide => MOST_LEVEL_RANK as u64,
+        Command::Straighten => MOST_RANK as u64,
     }
 }
 

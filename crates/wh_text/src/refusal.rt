@@ -1,7 +1,7 @@
 //! Printing of refusals.
 ghost use Rattle.std.specs.Prelude.{◌≡◌, ◌≢◌, ◌++◌, IfOk, OnOk, codes, decimal};
 ghost use Rattle.wh_lines.specs.declared.read_error.ReadError.TheVariants as errors;
-ghost use Rattle.wh_text.specs.RefusalTexts.{cause_text, refusal_text, refused_words_text};
+ghost use Rattle.wh_text.specs.RefusalTexts.{cause_text, refusal_text, refused_words_text, too_long_text};
 
 use std::alloc::Global;
 use wh_lines::{ReadError, print_number};
@@ -36,6 +36,18 @@ fn push_two(
     push_one(out, between, m)
 }
 
+/// The line for a list of moves on whose way a tuple has too many letters: the number of the move after which the first
+/// such tuple stands, counted from 1, and how many letters it has. OutOfMemory comes where there is no memory for the line.
+#[tactic(auto, unfolding(crate::specs::RefusalTexts::too_long_text))]
+pub fn print_too_long(alloc: Global, place: u64, length: u64) -> Result<Vec<u8>, OutOfMemory>
+    ensures { IfOk result (λ v. v.items ≡ too_long_text place length) }
+{
+    let mut out = Vec::new(alloc);
+    push_two(&mut out, b"refused too-long move ", place, b" length ", length)?;
+    out.push(b'\n')?;
+    Ok(out)
+}
+
 /// Writes what the line of a refusal tells after its first word.
 fn push_cause(out: &mut Vec<u8>, error: ReadError) -> Result<(), OutOfMemory>
     ensures { OnOk result (out.new.items ≡ out.old.items ++ cause_text error) }
@@ -57,6 +69,12 @@ fn push_cause(out: &mut Vec<u8>, error: ReadError) -> Result<(), OutOfMemory>
         }
         ReadError::LongTuple { line, length } => {
             push_two(out, b"long-tuple line ", line, b" length ", length)
+        }
+        ReadError::TooManyMoves { line, count } => {
+            push_two(out, b"too-many-moves line ", line, b" count ", count)
+        }
+        ReadError::BadMove { line, column } => {
+            push_two(out, b"bad-move line ", line, b" column ", column)
         }
         ReadError::TupleCount { expected, found } => {
             push_two(out, b"tuple-count ", expected, b" ", found)
