@@ -15,7 +15,7 @@ use Rattle.wh_data.specs.declared.answer.Bound.TheVariants.{Length, Level}
 use Rattle.wh_data.specs.declared.answer.Verdict.{Verdict}
 use Rattle.wh_data.specs.declared.answer.Verdict.TheVariants.{Yes, NoLength, NoLevel, Undecided}
 use Rattle.wh_data.specs.declared.answer.Answer.TheVariants as answers
-use Rattle.wh_data.specs.ProblemData.ProblemData.{reduce, decide}
+use Rattle.wh_data.specs.ProblemData.ProblemData.{reduce, decide, straighten}
 use Rattle.wh_data.specs.AnswerData.{VerdictData, plains, side_of, verdict_of}
 use Rattle.wh_fields.specs.TupleFields.{words_row}
 use Rattle.wh_lines.specs.Rows.{Row, number_row, rows_text}
@@ -206,13 +206,22 @@ decide_text s t rows = rows_text (heading_row commands.Decide ∷ number_row (co
 
 pub answer_one : AnswerIsUnique
 unfolding answer_text reduce_text decide_text
-answer_one limit (reduce t) (answers.Reduce u a) (answers.Reduce v b) is i j = (ap₂ reduce_text (i.0 ∙ sym j.0) (side_one t a b is.0 is.2 i.1 j.1), refl)
+answer_one limit (reduce t) (answers.Reduce u a) (answers.Reduce v b) is i j = ((λ _. ap₂ reduce_text (i.0 ∙ sym j.0) (side_one t a b is.0 is.2 i.1 j.1)), refl)
 answer_one limit (reduce t) (answers.Reduce u a) (answers.Decide x y v) is i j = absurd j
+answer_one limit (reduce t) (answers.Reduce u a) (answers.Straighten x g ms e) is i j = absurd j
 answer_one limit (reduce t) (answers.Decide x y v) b is i j = absurd i
+answer_one limit (reduce t) (answers.Straighten x g ms e) b is i j = absurd i
 answer_one limit (decide s t) (answers.Reduce u a) b is i j = absurd i
+answer_one limit (decide s t) (answers.Straighten x g ms e) b is i j = absurd i
 answer_one limit (decide s t) (answers.Decide x y v) (answers.Reduce u a) is i j = absurd j
+answer_one limit (decide s t) (answers.Decide x y v) (answers.Straighten p g ms e) is i j = absurd j
 answer_one limit (decide s t) (answers.Decide x y v) (answers.Decide p q r) is i j =
     let one : told v ≡ told r = verdict_one limit s t v r is.0 (omega (arith, is.4)) is.1 (omega (arith, is.2, is.4)) i.2.0 j.2.0 in (
-      ap₂ (λ a b. decide_text a b (rows_told (verdict_of v))) (i.0 ∙ sym j.0) (i.1 ∙ sym j.1) ∙ ap (λ (k : Told). decide_text p.plain q.plain k.0) one,
+      (λ _. ap₂ (λ a b. decide_text a b (rows_told (verdict_of v))) (i.0 ∙ sym j.0) (i.1 ∙ sym j.1) ∙ ap (λ (k : Told). decide_text p.plain q.plain k.0) one),
       ap (λ (k : Told). k.1) one,
     )
+answer_one limit (straighten t list) (answers.Reduce u a) b is i j = absurd i
+answer_one limit (straighten t list) (answers.Decide x y v) b is i j = absurd i
+answer_one limit (straighten t list) (answers.Straighten x g ms e) (answers.Reduce u a) is i j = absurd j
+answer_one limit (straighten t list) (answers.Straighten x g ms e) (answers.Decide p q r) is i j = absurd j
+answer_one limit (straighten t list) (answers.Straighten x g ms e) (answers.Straighten y h ns f) is i j = ((λ one. absurd one), refl)

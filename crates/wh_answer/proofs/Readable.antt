@@ -15,7 +15,7 @@ use Rattle.wh_data.specs.declared.answer.Side.{Side}
 use Rattle.wh_data.specs.declared.answer.Verdict.{Verdict}
 use Rattle.wh_data.specs.declared.answer.Verdict.TheVariants.{Yes}
 use Rattle.wh_data.specs.declared.answer.Answer.TheVariants as answers
-use Rattle.wh_data.specs.ProblemData.ProblemData.{reduce, decide}
+use Rattle.wh_data.specs.ProblemData.ProblemData.{reduce, decide, straighten}
 use Rattle.wh_lines.specs.Rows.{row_text, rows_text, number_row}
 use Rattle.wh_lines.proofs.PrintedRows.{rows_append}
 use Rattle.wh_fields.specs.TupleFields.{words_row, IsTupleOf}
@@ -211,7 +211,12 @@ decide_readable limit s t v h (is, js, ranks, least, low, counts) d x =
 pub answers_readable : AnswersAreReadable
 answers_readable limit (reduce t) (answers.Reduce u s) h is own x = reduce_readable u s (subst (λ d. IsProblem (reduce d)) (sym own.0) is) (subst (λ d. IsSideOf d s) (sym own.0) own.1)
 answers_readable limit (reduce t) (answers.Decide a b v) h is own x = absurd own
+answers_readable limit (reduce t) (answers.Straighten u g ms e) h is own x = absurd own
 answers_readable limit (decide s t) (answers.Reduce u c) h is own x = absurd own
+answers_readable limit (decide s t) (answers.Straighten u g ms e) h is own x = absurd own
+answers_readable limit (straighten t list) (answers.Reduce u c) h is own x = absurd own
+answers_readable limit (straighten t list) (answers.Decide a b v) h is own x = absurd own
+answers_readable limit (straighten t list) (answers.Straighten u g ms e) h is own x = absurd x
 answers_readable limit (decide s t) (answers.Decide a b v) h is own x =
     decide_readable limit a b v h
     (subst (λ d. IsProblem (decide d b.plain)) (sym own.0) (subst (λ d. IsProblem (decide s d)) (sym own.1) is))

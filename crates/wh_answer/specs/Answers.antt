@@ -7,6 +7,8 @@ use Rattle.wh_words.specs.MoveLists.{inverse_list}
 use Rattle.wh_words.specs.Action.{act_all}
 use Rattle.wh_words.specs.CapacityTraces.{IsCapacityTrace}
 use Rattle.wh_words.specs.Levels.{InLevel, IsLevel, IsFirstWalk, HasMoreThan}
+use Rattle.wh_moves.specs.Acts.{FitsOnTheWay}
+use Rattle.wh_peak.specs.Straightness.{IsStraightened}
 use Rattle.wh_reduce.specs.FlowLists.{AreFlows}
 use Rattle.wh_data.specs.declared.answer.Side.{Side}
 use Rattle.wh_data.specs.declared.answer.Bound.TheVariants.{Length, Level}
@@ -15,7 +17,7 @@ use Rattle.wh_data.specs.declared.answer.Verdict.TheVariants.{Yes, NoLength, NoL
 use Rattle.wh_data.specs.declared.answer.Answer.{Answer}
 use Rattle.wh_data.specs.declared.answer.Answer.TheVariants as answers
 use Rattle.wh_data.specs.ProblemData.{ProblemData}
-use Rattle.wh_data.specs.ProblemData.ProblemData.{reduce, decide}
+use Rattle.wh_data.specs.ProblemData.ProblemData.{reduce, decide, straighten}
 
 -- The side of a tuple: its trace, the end of that, and the flows of the generators of the end.
 pub record IsSideOf (t : TupleData) (side : Side) : Type 0 where
@@ -51,14 +53,26 @@ Carries s t (Undecided bound) = Unit {0}
 abbrev pub IsVerdict : ℕ → TupleData → TupleData → Verdict → Type 0
 IsVerdict limit s t verdict = Decides limit s t verdict × Carries s t verdict
 
--- The answer is the one to the problem: for a tuple that is to be reduced, the tuple itself and its side; for two tuples, themselves and the verdict on them.
+-- No tuple on the way of the given moves has too many letters, the moves are straight in their place, and both lead from the tuple to the end.
+pub record Straightens (t : TupleData) (given ms : List Move) (end : TupleData) : Type 0 where
+  pub fits : FitsOnTheWay t given
+  pub straightened : IsStraightened t given ms
+  pub leads : act_all t given ≡ end
+
+-- The answer is one to the problem: for a tuple that is to be reduced, the tuple itself and its side; for two tuples, themselves and the verdict on them; and for a list of moves from a tuple, both of them, straight moves in the place of the list, and the end.
 abbrev pub Answers : ℕ → ProblemData → Answer → Type 0
 Answers limit (reduce t) (answers.Reduce tuple side) = (tuple.plain ≡ t) × IsSideOf t side
 Answers limit (reduce t) (answers.Decide first second verdict) = ⊥
+Answers limit (reduce t) (answers.Straighten tuple given ms end) = ⊥
 Answers limit (decide s t) (answers.Reduce tuple side) = ⊥
 Answers limit (decide s t) (answers.Decide first second verdict) = (first.plain ≡ s) × (second.plain ≡ t) × IsVerdict limit s t verdict
+Answers limit (decide s t) (answers.Straighten tuple given ms end) = ⊥
+Answers limit (straighten t list) (answers.Reduce tuple side) = ⊥
+Answers limit (straighten t list) (answers.Decide first second verdict) = ⊥
+Answers limit (straighten t list) (answers.Straighten tuple given ms end) = (tuple.plain ≡ t) × (given ≡ list) × Straightens t list ms end.plain
 
--- The problem can be answered: two tuples are of one rank, which is one of levels, and have equally many words.
+-- The problem can be answered by levels: it isn't one of `straighten`, and two tuples are of one rank, which is one of levels, and have equally many words.
 abbrev pub IsAnswerable : ProblemData → Type 0
 IsAnswerable (reduce t) = Unit {0}
 IsAnswerable (decide s t) = (s.rank ≡ t.rank) × (s.rank ≤ most_level_rank) × (length s.words ≡ length t.words)
+IsAnswerable (straighten t list) = ⊥

@@ -12,17 +12,18 @@ use Rattle.wh_nielsen.specs.Automorphisms.{IsAutomorphism, act_by, IsCarried}
 use Rattle.wh_data.specs.AnswerTexts.{answer_text}
 use Rattle.wh_data.specs.AnswerData.{VerdictData, AnswerData}
 use Rattle.wh_data.specs.AnswerData.VerdictData.{yes, no_length, no_level, undecided}
-use Rattle.wh_data.specs.AnswerData.AnswerData.{reduce, decide}
+use Rattle.wh_data.specs.AnswerData.AnswerData.{reduce, decide, straighten}
 use Rattle.wh_data.specs.Limits.{most_answer_bytes}
 use Rattle.wh_data.specs.AnswerParts.{IsCertificate, heads_of}
 use Rattle.wh_cert.specs.Demands.{asked}
 use Rattle.wh_cert.specs.Checks.{AreMet}
 
--- The answer isn't undecided.
+-- The answer can be checked: it isn't undecided, and it isn't one of `straighten`.
 abbrev pub IsDecided : AnswerData → Type 0
 IsDecided (reduce t s) = Unit {0}
 IsDecided (decide s t (undecided bound)) = ⊥
 IsDecided (decide s t v) = Unit {0}
+IsDecided (straighten t given ms end) = ⊥
 
 -- The text of the answer is a certificate that isn't too long.
 pub record IsReadable (a : AnswerData) : Type 0 where
@@ -45,6 +46,7 @@ EndsAreTuples (undecided bound) = Unit {0}
 abbrev pub HasTuples : AnswerData → Type 0
 HasTuples (reduce t s) = IsTuple t × (t.rank ≤ most_rank) × IsTuple s.end
 HasTuples (decide s t v) = IsTuple s × IsTuple t × (s.rank ≤ most_rank) × EndsAreTuples v
+HasTuples (straighten t given ms end) = IsTuple t × (t.rank ≤ most_rank) × IsTuple end
 
 -- The moves of a verdict, those of its sides among them, are moves of rank n.
 abbrev pub HasMovesOfRank : ℕ → VerdictData → Type 0
@@ -57,6 +59,7 @@ HasMovesOfRank n (undecided bound) = Unit {0}
 abbrev pub HasMoves : AnswerData → Type 0
 HasMoves (reduce t s) = AreMovesOfRank t.rank s.trace
 HasMoves (decide s t v) = HasMovesOfRank s.rank v
+HasMoves (straighten t given ms end) = AreMovesOfRank t.rank given × AreMovesOfRank t.rank ms
 
 -- No automorphism takes the first tuple to one that is shorter than the second.
 abbrev pub IsShortestOf : TupleData → TupleData → Type 0
@@ -75,3 +78,4 @@ Shows (decide s t (yes ms)) = IsCarriedBy s t ms
 Shows (decide s t (no_length a b)) = LeadsToFlat s a.trace a.end × LeadsToFlat t b.trace b.end × (tuple_length a.end ≢ tuple_length b.end) × ¬ (IsCarried s t)
 Shows (decide s t (no_level a b ts)) = LeadsToFlat s a.trace a.end × LeadsToFlat t b.trace b.end × (tuple_length a.end ≡ tuple_length b.end) × ¬ (InLevel a.end b.end) × ¬ (IsCarried s t)
 Shows (decide s t (undecided bound)) = Unit {0}
+Shows (straighten t given ms end) = Unit {0}

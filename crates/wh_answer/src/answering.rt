@@ -81,7 +81,8 @@ fn decided(alloc: Global, first: &Tuple, second: &Tuple, limit: u32) -> Result<A
     answer_with(alloc, first, second, verdict)
 }
 
-/// The answer to a problem, where levels may have at most so many tuples. It can be printed.
+/// The answer to a problem, where levels may have at most so many tuples. The problem isn't one of `straighten`. The
+/// answer can be printed.
 ///
 /// A tuple that is to be reduced is answered with its trace, the end of that, and the first flows of the end. For two
 /// tuples of one rank, at most MOST_LEVEL_RANK, and with equally many words the verdict is the first of these cases
@@ -99,5 +100,6 @@ pub fn answer(alloc: Global, problem: &Problem, limit: u32) -> Result<Answer, Ou
     match problem {
         Problem::Reduce { tuple } => reduced(alloc, tuple),
         Problem::Decide { first, second } => decided(alloc, first, second, limit),
+        Problem::Straighten { .. } => unreachable!(),
     }
 }

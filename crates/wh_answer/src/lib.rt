@@ -8,5 +8,8 @@ mod finding;
 mod joining;
 pub mod laws;
 mod side;
+mod straightening;
 
 pub use answering::answer;
+pub use straightening::straightened;
+pub use wh_straighten::StraightenError;

@@ -13,7 +13,7 @@ use Rattle.wh_flow.specs.Tables.{cell}
 use Rattle.wh_moves.specs.Acts.{FitsOnTheWay}
 use Rattle.wh_data.specs.AnswerData.{SideData, VerdictData, AnswerData}
 use Rattle.wh_data.specs.AnswerData.VerdictData.{yes, no_length, no_level, undecided}
-use Rattle.wh_data.specs.AnswerData.AnswerData.{reduce, decide}
+use Rattle.wh_data.specs.AnswerData.AnswerData.{reduce, decide, straighten}
 use Rattle.wh_data.specs.Numberings.{head_lines, side_lines}
 use Rattle.wh_cert.specs.declared.checked.Rule.{Rule}
 use Rattle.wh_cert.specs.declared.checked.Rule.TheVariants as rules
@@ -146,7 +146,8 @@ verdict_asked place heads s t (no_level a b ts) =
     sides_asked place s.rank heads s t a b lengths_agree ++ level_asked (place + 2 * side_lines s.rank) a.end b.end ts
 verdict_asked place heads s t (undecided bound) = []
 
--- Of all lines of an answer, whose `flow` lines tell these letters and values.
+-- Of all lines of an answer, whose `flow` lines tell these letters and values. Nothing is asked of answers that can't be checked.
 abbrev pub asked : List (ℕ × ℕ) → AnswerData → List Placed
 asked heads (reduce t s) = side_asked (head_lines (reduce t s)) heads t s
 asked heads (decide s t v) = verdict_asked (head_lines (decide s t v)) heads s t v
+asked heads (straighten t given ms end) = []

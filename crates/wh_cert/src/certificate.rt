@@ -201,6 +201,8 @@ fn judge_answer(alloc: Global, heads: &[(Letter, u32)], answer: &Answer) -> Resu
             second,
             verdict,
         } => judge_verdict(alloc, place, heads, first, second, verdict),
+        // No certificate is such an answer.
+        Answer::Straighten { .. } => Ok(()),
     }
 }
 

@@ -1,17 +1,22 @@
 -- What is told of a problem is told valid when it is checked: for the law on answers.
-use Rattle.std.proofs.Common.{◌≡◌, ◌⊎◌, ◌≤◌, ℕ, List, [], ◌∷◌, sym, ap, ◌∙◌, subst, arith, inl, inr, Ok, Option, None, Some}
+use Rattle.std.proofs.Common.{◌≡◌, ◌⊎◌, ◌≤◌, ℕ, true, List, [], ◌∷◌, sym, ap, ◌∙◌, subst, arith, inl, inr, Ok, Option, None, Some}
 use Rattle.std.specs.Prelude.{codes}
 use Rattle.clap.specs.Words.{Row, Text, Kinds, first_of, fault_of, matches_of}
 use Rattle.std.proofs.lemmas.Bool.Decides.{nat_tests}
 use Rattle.wh_words.specs.Limits.{most_level_tuples}
+use Rattle.wh_words.specs.Tuples.{Tuple}
+use Rattle.wh_words.specs.Moves.{Move}
 use Rattle.wh_data.specs.declared.status.Status.{Status}
 use Rattle.wh_data.specs.declared.status.Status.TheVariants.{Done, No}
 use Rattle.wh_data.specs.declared.command.Command.{Command}
+use Rattle.wh_data.specs.declared.command.Command.TheVariants as commands
+use Rattle.wh_data.specs.Commands.{is_checked}
 use Rattle.wh_data.specs.declared.answer.Answer as answers
-use Rattle.wh_data.specs.declared.answer.Answer.TheVariants.{Reduce, Decide}
+use Rattle.wh_data.specs.declared.answer.Answer.TheVariants.{Reduce, Decide, Straighten}
 use Rattle.wh_data.specs.declared.answer.Verdict.TheVariants as verdicts
 use Rattle.wh_lines.specs.Numbers.{number}
 use Rattle.wh_data.specs.ProblemData.{ProblemData}
+use Rattle.wh_data.specs.ProblemData.ProblemData.{reduce, decide, straighten}
 use Rattle.wh_text.specs.Problems.{problem}
 use Rattle.wh_data.specs.AnswerTexts.{answer_text}
 use Rattle.wh_data.specs.AnswerData.{answer_of}
@@ -30,10 +35,10 @@ use Rattle.whitehead.specs.CommandLine.{program}
 use Rattle.whitehead.specs.Asked.{in_range, option_in, together, asked_unless, asked, task_in}
 use Rattle.whitehead.specs.CheckedTexts.{checked_text}
 use Rattle.whitehead.specs.Replies.{Replies}
-use Rattle.whitehead.specs.Replies.Replies.{refused, answered, unread, checked}
+use Rattle.whitehead.specs.Replies.Replies.{refused, answered, too_long, unread, checked}
 use Rattle.whitehead.specs.Outcome.Told.{words_refused, replied}
 use Rattle.whitehead.specs.Laws.{AnswersAreValid}
-use Rattle.whitehead.proofs.ReadProblems.{read_problem}
+use Rattle.whitehead.proofs.ReadProblems.{IsOf, of_command, read_problem}
 
 -- ---- the limit of a run
 range_within : (least most : ℕ) (o : Option ℕ) (n : ℕ) → in_range least most o ≡ Some n → n ≤ most
@@ -63,35 +68,48 @@ unfolding asked
 asked_limit words a e = unless_limit (fault_of program words) (matches_of program words) a e
 
 -- ---- answers that aren't undecided
-decided_by : (a : answers.Answer) → (answer_status a ≡ Done) ⊎ (answer_status a ≡ No) → IsDecided (answer_of a)
-decided_by (Reduce t s) h = tt
-decided_by (Decide s t (verdicts.Yes ms)) h = tt
-decided_by (Decide s t (verdicts.NoLength a b)) h = tt
-decided_by (Decide s t (verdicts.NoLevel a b ts)) h = tt
-decided_by (Decide s t (verdicts.Undecided bound)) (inl e) = absurd (cc)
-decided_by (Decide s t (verdicts.Undecided bound)) (inr e) = absurd (cc)
+-- a list that was straightened is no answer of a command that is checked
+not_straightened : (limit : ℕ) (command : Command) (p : ProblemData) (u : Tuple) (given ms : List Move) (end : Tuple) → is_checked command ≡ true → IsOf command p → Answers limit p (Straighten u given ms end) → ⊥
+not_straightened limit command (reduce t) u given ms end c o is = is
+not_straightened limit command (decide s t) u given ms end c o is = is
+not_straightened limit commands.Reduce (straighten t list) u given ms end c o is = o
+not_straightened limit commands.Decide (straighten t list) u given ms end c o is = o
+not_straightened limit commands.Straighten (straighten t list) u given ms end c o is = absurd (cc)
+
+decided_by : (limit : ℕ) (command : Command) (p : ProblemData) (a : answers.Answer) → is_checked command ≡ true → IsOf command p → Answers limit p a → (answer_status a ≡ Done) ⊎ (answer_status a ≡ No) → IsDecided (answer_of a)
+decided_by limit command p (Reduce t s) c o is h = tt
+decided_by limit command p (Decide s t (verdicts.Yes ms)) c o is h = tt
+decided_by limit command p (Decide s t (verdicts.NoLength a b)) c o is h = tt
+decided_by limit command p (Decide s t (verdicts.NoLevel a b ts)) c o is h = tt
+decided_by limit command p (Decide s t (verdicts.Undecided bound)) c o is (inl e) = absurd (cc)
+decided_by limit command p (Decide s t (verdicts.Undecided bound)) c o is (inr e) = absurd (cc)
+decided_by limit command p (Straighten t given ms end) c o is h = absurd (not_straightened limit command p t given ms end c o is)
 
 -- ---- its text is checked
 valid_again : (limit : ℕ) (command : Command) (bytes : List ℕ) (p : ProblemData) (a : answers.Answer) → limit ≤ most_level_tuples → problem command bytes ≡ Ok p → Answers limit p a → IsDecided (answer_of a) →
     (other : ℕ) → Replies other (answer_text (answer_of a)) tasks.Check Done (codes "valid\n")
 unfolding checked_text
 valid_again limit command bytes p a low read own decided other =
-    let is = (read_problem command bytes p read).0 in
+    let is = read_problem command bytes p read in
     let readable = answers_readable limit p a low is own decided in
     checked Valid (reads_back (answer_of a) readable.certificate readable.short) (answers_valid limit p a is own decided)
 
-reply_valid : (limit : ℕ) (bytes text : List ℕ) (task : Task) (command : Command) (status : Status) → limit ≤ most_level_tuples → task ≡ tasks.Answer command → (status ≡ Done) ⊎ (status ≡ No) → Replies limit bytes task status text →
+reply_valid : (limit : ℕ) (bytes text : List ℕ) (task : Task) (command : Command) (status : Status) → limit ≤ most_level_tuples → is_checked command ≡ true → task ≡ tasks.Answer command → (status ≡ Done) ⊎ (status ≡ No) → Replies limit bytes task status text →
     (other : ℕ) → Replies other text tasks.Check Done (codes "valid\n")
-reply_valid limit bytes text task command status low is (inl e) (refused r) other = absurd (cc)
-reply_valid limit bytes text task command status low is (inr e) (refused r) other = absurd (cc)
-reply_valid limit bytes text task command status low is decided (answered {command = own} {p = p} a r q) other = valid_again limit own bytes p a low r q (decided_by a decided) other
-reply_valid limit bytes text task command status low is decided (unread r) other = absurd (cc)
-reply_valid limit bytes text task command status low is decided (checked found r q) other = absurd (cc)
+reply_valid limit bytes text task command status low c is (inl e) (refused r) other = absurd (cc)
+reply_valid limit bytes text task command status low c is (inr e) (refused r) other = absurd (cc)
+reply_valid limit bytes text task command status low c is decided (answered {command = own} {p = p} a r q) other =
+    let same : own ≡ command = (cc) in
+    valid_again limit own bytes p a low r q (decided_by limit own p a (ap is_checked same ∙ c) (of_command own bytes p r) q decided) other
+reply_valid limit bytes text task command status low c is (inl e) (too_long r long) other = absurd (cc)
+reply_valid limit bytes text task command status low c is (inr e) (too_long r long) other = absurd (cc)
+reply_valid limit bytes text task command status low c is decided (unread r) other = absurd (cc)
+reply_valid limit bytes text task command status low c is decided (checked found r q) other = absurd (cc)
 
 pub answers_valid_again : AnswersAreValid
 answers_valid_again words others bytes text status ask (b, h, check) (inl e) (words_refused r) = absurd (cc)
 answers_valid_again words others bytes text status ask (b, h, check) (inr e) (words_refused r) = absurd (cc)
-answers_valid_again words others bytes text status (command, a, k, task) (b, h, check) decided (replied {a = d} r reply) =
+answers_valid_again words others bytes text status (command, c, (a, k, task)) (b, h, check) decided (replied {a = d} r reply) =
     let same : d ≡ a = (cc) in
     replied h (subst (λ (t : Task). Replies b.limit text t Done (codes "valid\n")) (sym check)
-    (reply_valid d.limit bytes text d.task command status (asked_limit words d r) (ap (λ (v : Arguments). v.task) same ∙ task) decided reply b.limit))
+    (reply_valid d.limit bytes text d.task command status (asked_limit words d r) c (ap (λ (v : Arguments). v.task) same ∙ task) decided reply b.limit))

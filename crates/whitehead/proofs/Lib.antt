@@ -1,11 +1,11 @@
 pub mod Simple
 pub mod Parsed
 pub mod Pieces
+pub mod ReadMoves
 pub mod ReadProblems
 pub mod OneText
 pub mod KnownReplies
 pub mod Checking
 pub mod ReadTuples
-pub mod ReadMoves
 pub mod Meaning
 pub mod Telling

@@ -10,7 +10,7 @@ use Rattle.wh_lines.proofs.Equations.{ok_is}
 use Rattle.wh_data.specs.declared.command.Command.{Command}
 use Rattle.wh_data.specs.declared.command.Command.TheVariants as commands
 use Rattle.wh_data.specs.declared.answer.Answer as answers
-use Rattle.wh_data.specs.declared.answer.Answer.TheVariants.{Reduce, Decide}
+use Rattle.wh_data.specs.declared.answer.Answer.TheVariants.{Reduce, Decide, Straighten}
 use Rattle.wh_data.specs.declared.answer.Verdict as verdicts
 use Rattle.wh_data.specs.ProblemData.{ProblemData}
 use Rattle.wh_text.specs.Problems.{problem}
@@ -27,7 +27,7 @@ use Rattle.whitehead.specs.declared.arguments.Task.{Task}
 use Rattle.whitehead.specs.declared.arguments.Task.TheVariants as tasks
 use Rattle.whitehead.specs.declared.arguments.Arguments.{Arguments}
 use Rattle.whitehead.specs.Replies.{Replies}
-use Rattle.whitehead.specs.Replies.Replies.{refused, answered, unread, checked}
+use Rattle.whitehead.specs.Replies.Replies.{refused, answered, too_long, unread, checked}
 use Rattle.whitehead.specs.Asked.{asked}
 use Rattle.whitehead.specs.Outcome.{Told}
 use Rattle.whitehead.specs.Outcome.Told.{words_refused, replied}
@@ -40,6 +40,7 @@ use Rattle.whitehead.proofs.ReadMoves.{certificate_moves}
 reply_shown : (limit : ℕ) (bytes text : List ℕ) (task : Task) (status : Status) → task ≡ tasks.Check → status ≡ Done → Replies limit bytes task status text → IsShown bytes
 reply_shown limit bytes text task status is done (refused r) = absurd (cc)
 reply_shown limit bytes text task status is done (answered a r q) = absurd (cc)
+reply_shown limit bytes text task status is done (too_long r long) = absurd (cc)
 reply_shown limit bytes text task status is done (unread r) = absurd (cc)
 reply_shown limit bytes text task status is done (checked {c = c} Valid r met) =
     record { certificate = c; read = r; shown = valid_shows c.flow_heads c.answer (certificate_numbered bytes c r).answer (certificate_tuples bytes c r) (certificate_moves bytes c r) met }
@@ -72,10 +73,11 @@ answer_says : (limit : ℕ) (bytes : List ℕ) (s t : TupleData) (p : ProblemDat
 answer_says limit bytes s t p a read own is = by a (subst (λ (q : ProblemData). Answers limit q a) (sym (ok_is (decide s t) p (sym read ∙ own))) is)
   where
     known : IsProblem (decide s t)
-    known = (read_problem commands.Decide bytes (decide s t) read).0
+    known = read_problem commands.Decide bytes (decide s t) read
 
     by : (x : answers.Answer) → Answers limit (decide s t) x → SaysOf (answer_status x) s t
     by (Reduce tuple side) wrong = absurd wrong
+    by (Straighten tuple given ms end) wrong = absurd wrong
     by (Decide first second v) right = verdict_says limit s t v known.0 known.1 known.2 (omega (arith, known.4)) right.2.0
 
 reply_says : (limit : ℕ) (bytes text : List ℕ) (task : Task) (status : Status) (s t : TupleData) → task ≡ tasks.Answer commands.Decide → problem commands.Decide bytes ≡ Ok (decide s t) → Replies limit bytes task status text → SaysOf status s t
@@ -83,6 +85,7 @@ reply_says limit bytes text task status s t is read (refused r) = tt
 reply_says limit bytes text task status s t is read (answered {command = command} {p = p} a r q) =
     let same : command ≡ commands.Decide = (cc) in
     answer_says limit bytes s t p a read (subst (λ (c : Command). problem c bytes ≡ Ok p) same r) q
+reply_says limit bytes text task status s t is read (too_long r long) = absurd (cc)
 reply_says limit bytes text task status s t is read (unread r) = absurd (cc)
 reply_says limit bytes text task status s t is read (checked found r q) = absurd (cc)
 

@@ -8,7 +8,7 @@ use Rattle.wh_lines.specs.Rows.{Row}
 use Rattle.wh_fields.proofs.MoveLaws.{spelled_kind}
 use Rattle.wh_data.specs.AnswerData.{SideData, VerdictData, AnswerData, CertificateData}
 use Rattle.wh_data.specs.AnswerData.VerdictData.{yes, no_length, no_level, undecided}
-use Rattle.wh_data.specs.AnswerData.AnswerData.{reduce, decide}
+use Rattle.wh_data.specs.AnswerData.AnswerData.{reduce, decide, straighten}
 use Rattle.wh_text.specs.Certificates.{certificate}
 use Rattle.wh_text.specs.CertificateTexts.{AreMoveFields, IsMovesRow, IsSideText, IsVerdictText, IsAnswerText}
 use Rattle.wh_text.proofs.ExactCertificates.{reads_certificates}
@@ -16,7 +16,7 @@ use Rattle.wh_peak.specs.Equivalence.{IsMoveOfRank, AreMovesOfRank}
 use Rattle.wh_answer.specs.Certified.{HasMovesOfRank, HasMoves}
 
 -- ---- moves
-fields_moves : (n : ℕ) (fs : List (List ℕ)) (ms : List Move) → n ≤ most_rank → AreMoveFields n fs ms → AreMovesOfRank n ms
+pub fields_moves : (n : ℕ) (fs : List (List ℕ)) (ms : List Move) → n ≤ most_rank → AreMoveFields n fs ms → AreMovesOfRank n ms
 fields_moves n [] [] low told = All-nil (IsMoveOfRank n)
 fields_moves n [] (m ∷ ms) low told = absurd told
 fields_moves n (f ∷ fs) [] low told = absurd told
@@ -42,6 +42,7 @@ verdict_moves n count rows (undecided bound) heads low told = absurd told
 answer_moves : (rows : List Row) (a : AnswerData) (heads : List (ℕ × ℕ)) → IsAnswerText rows a heads → HasMoves a
 answer_moves rows (reduce t s) heads told = side_moves t.rank (length t.words) told.1 s heads told.4 told.6
 answer_moves rows (decide s t v) heads told = verdict_moves s.rank (length s.words) told.2 v heads (omega (arith, told.5)) told.8
+answer_moves rows (straighten t given ms end) heads told = absurd told
 
 pub certificate_moves : (bytes : List ℕ) (c : CertificateData) → certificate bytes ≡ Ok c → HasMoves c.answer
 certificate_moves bytes c e = let text = ((reads_certificates bytes c).0 e).1 in answer_moves text.rows c.answer c.flow_heads text.told

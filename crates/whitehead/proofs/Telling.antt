@@ -6,7 +6,7 @@ use Rattle.wh_io.specs.Device.{Consumed}
 use Rattle.wh_data.specs.declared.status.Status.{Status}
 use Rattle.wh_data.specs.declared.status.Status.TheVariants.{Done, No, Refused, Undecided, ReadFault, WriteFault, OutOfMemory}
 use Rattle.wh_data.specs.declared.answer.Answer.{Answer}
-use Rattle.wh_data.specs.declared.answer.Answer.TheVariants.{Reduce, Decide}
+use Rattle.wh_data.specs.declared.answer.Answer.TheVariants.{Reduce, Decide, Straighten}
 use Rattle.wh_data.specs.declared.answer.Verdict.{Verdict}
 use Rattle.wh_data.specs.declared.answer.Verdict.TheVariants.{Yes, NoLength, NoLevel}
 use Rattle.wh_data.specs.declared.answer.Verdict.TheVariants as verdicts
@@ -15,7 +15,7 @@ use Rattle.wh_cert.specs.declared.checked.Checked.{Checked}
 use Rattle.wh_cert.specs.declared.checked.Checked.TheVariants.{Valid, Invalid}
 use Rattle.whitehead.specs.Endings.{Finished}
 use Rattle.whitehead.specs.CheckedTexts.{checked_status}
-use Rattle.whitehead.specs.Replies.Replies.{refused, answered, unread, checked}
+use Rattle.whitehead.specs.Replies.Replies.{refused, answered, too_long, unread, checked}
 use Rattle.whitehead.specs.Outcome.{Told, IsInput, HasTold, RanTo}
 use Rattle.whitehead.specs.Outcome.Told.{words_refused, replied}
 use Rattle.whitehead.proofs.Meaning.{told_is_true}
@@ -39,6 +39,7 @@ verdict_ends (verdicts.Undecided bound) = tt
 answers_end : (x : Answer) → IsToldStatus (answer_status x)
 answers_end (Reduce t side) = tt
 answers_end (Decide s t v) = verdict_ends v
+answers_end (Straighten t given ms end) = tt
 
 checks_end : (found : Checked) → IsToldStatus (checked_status found)
 checks_end Valid = tt
@@ -48,6 +49,7 @@ told_ends : {words : List Text} {bytes text : List ℕ} {status : Status} → To
 told_ends (words_refused r) = tt
 told_ends (replied a (refused e)) = tt
 told_ends (replied a (answered x p q)) = answers_end x
+told_ends (replied a (too_long p long)) = tt
 told_ends (replied a (unread e)) = tt
 told_ends (replied a (checked found e k)) = checks_end found
 

@@ -2,12 +2,14 @@
 ghost use Rattle.whitehead.specs.Laws.{ToldIsUnique, AnswersAreValid, ToldIsTrue, ValidIsShown};
 
 /// Words and bytes determine the status and the text that are told, byte for byte: two runs that aren't stopped by a fault
-/// or want of memory write the same.
+/// or want of memory write the same. Where a list of moves is to be straightened they determine the status alone, since
+/// each straight list serves.
 pub fn told()
     ensures { ToldIsUnique }
 {}
 
-/// What a run writes for a problem that it decides or reduces is told `valid`, when another run checks it.
+/// What a run writes for a problem that it decides or reduces is told `valid`, when another run checks it. Answers of
+/// `straighten` can't be checked.
 pub fn answers()
     ensures { AnswersAreValid }
 {}

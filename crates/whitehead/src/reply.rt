@@ -2,30 +2,35 @@
 ghost use Rattle.std.specs.Prelude.{◌≡◌, ◌≢◌, ℕ, IfOk, Ok};
 ghost use Rattle.std.specs.Prelude as prelude;
 ghost use Rattle.wh_data.specs.declared.command.Command.{Command};
+ghost use Rattle.wh_data.specs.declared.command.Command.TheVariants as commands;
 ghost use Rattle.wh_data.specs.declared.status.Status.TheVariants.{Refused};
 ghost use Rattle.wh_lines.specs.declared.read_error.ReadError.TheVariants as errors;
 ghost use Rattle.wh_data.specs.ProblemData.{problem_of};
+ghost use Rattle.wh_data.specs.ProblemData.ProblemData.{straighten as to_straighten};
 ghost use Rattle.wh_text.specs.Problems.{problem as stated};
 ghost use Rattle.wh_data.specs.AnswerTexts.{answer_text, IsPrintable};
 ghost use Rattle.wh_data.specs.AnswerData.{answer_of, certificate_of};
 ghost use Rattle.wh_text.specs.Certificates.{certificate};
 ghost use Rattle.wh_data.specs.Numberings.{IsNumbered};
-ghost use Rattle.wh_text.specs.RefusalTexts.{refusal_text};
+ghost use Rattle.wh_text.specs.RefusalTexts.{refusal_text, too_long_text};
 ghost use Rattle.wh_data.specs.Statuses.{answer_status};
+ghost use Rattle.wh_peak.specs.Equivalence.{AreMovesOfRank};
 ghost use Rattle.wh_answer.specs.Answers.{IsAnswerable};
+ghost use Rattle.wh_answer.specs.Laws.{IsProblem};
 ghost use Rattle.whitehead.specs.declared.arguments.Task.TheVariants as tasks;
 ghost use Rattle.whitehead.specs.Replies.{Replies};
 
 use crate::arguments::Task;
 use crate::checked_text::{print_checked, status_of};
 use std::alloc::Global;
-use wh_answer::answer;
+use wh_answer::{StraightenError, answer, straightened};
 use wh_cert::check;
+use wh_moves::Move;
 use wh_text::{
     Answer, Command, Numbered, Problem, ReadError, Status, print_answer, print_refusal,
-    read_answer, read_problem,
+    print_too_long, read_answer, read_problem,
 };
-use wh_words::{List, OutOfMemory};
+use wh_words::{List, OutOfMemory, Tuple};
 
 /// A status and a text.
 #[derive(Debug, Drop)]
@@ -60,8 +65,37 @@ fn reply_with(alloc: Global, answer: &Answer) -> Result<Reply, OutOfMemory>
     })
 }
 
-/// The reply to a problem: its answer.
-fn problem_reply(alloc: Global, problem: &Problem, limit: u32) -> Result<Reply, OutOfMemory>
+/// The reply to a list of moves on whose way a tuple has too many letters: the line that tells the first such tuple.
+fn too_long_reply(alloc: Global, place: usize, length: u32) -> Result<Reply, OutOfMemory>
+    ensures status { IfOk result (λ r. r.status ≡ Refused) }
+    ensures text { IfOk result (λ r. r.text ≡ too_long_text place length) }
+{
+    let text = print_too_long(alloc, place as u64, length as u64)?;
+    Ok(Reply {
+        status: Status::Refused,
+        text: List::of(text),
+    })
+}
+
+/// The reply where a list of moves is to be straightened: a straight list, or the refusal of one that is too long on its
+/// way.
+fn straighten_reply(alloc: Global, tuple: &Tuple, moves: &[Move]) -> Result<Reply, OutOfMemory>
+    requires { AreMovesOfRank tuple.now.plain.rank moves.now }
+    ensures { (limit : ℕ) (bytes : prelude.List ℕ) → stated commands.Straighten bytes ≡ Ok (to_straighten tuple.now.plain moves.now) → IfOk result (λ r. Replies limit bytes (tasks.Answer commands.Straighten) r.status r.text) }
+{
+    match straightened(alloc, tuple, moves) {
+        Ok(answer) => {
+            let reply = reply_with(alloc, &answer);
+            drop(answer);
+            reply
+        }
+        Err(StraightenError::TooLong { place, length }) => too_long_reply(alloc, place, length),
+        Err(StraightenError::OutOfMemory) => Err(OutOfMemory),
+    }
+}
+
+/// The reply to a problem that has one answer.
+fn answered_reply(alloc: Global, problem: &Problem, limit: u32) -> Result<Reply, OutOfMemory>
     requires { IsAnswerable (problem_of problem.now) }
     ensures { (command : Command) (bytes : prelude.List ℕ) → stated command bytes ≡ Ok (problem_of problem.now) → IfOk result (λ r. Replies limit bytes (tasks.Answer command) r.status r.text) }
 {
@@ -71,8 +105,19 @@ fn problem_reply(alloc: Global, problem: &Problem, limit: u32) -> Result<Reply, 
     reply
 }
 
+/// The reply to a problem: its answer, or its refusal.
+fn problem_reply(alloc: Global, problem: &Problem, limit: u32) -> Result<Reply, OutOfMemory>
+    requires { IsProblem (problem_of problem.now) }
+    ensures { (command : Command) (bytes : prelude.List ℕ) → stated command bytes ≡ Ok (problem_of problem.now) → IfOk result (λ r. Replies limit bytes (tasks.Answer command) r.status r.text) }
+{
+    match problem {
+        Problem::Straighten { tuple, moves } => straighten_reply(alloc, tuple, moves.items()),
+        Problem::Reduce { .. } | Problem::Decide { .. } => answered_reply(alloc, problem, limit),
+    }
+}
+
 /// The reply to the text of a problem: the line of its first refusal, or the text of its answer.
-#[tactic(auto, using(crate::proofs::ReadProblems::answerable))]
+#[tactic(auto, using(crate::proofs::ReadProblems::read_problem))]
 fn answer_reply(
     alloc: Global,
     command: Command,

@@ -1,13 +1,21 @@
-use Rattle.wh_data.specs.AnswerTexts.{answer_text}
-use Rattle.wh_data.specs.AnswerData.{answer_of}
-use Rattle.wh_data.specs.Statuses.{answer_status}
+use Rattle.std.proofs.Common.{◌≡◌, ◌∙◌, List, sym, ap, subst, rules, Ok}
+use Rattle.std.specs.Prelude.{IfOk}
+use Rattle.wh_words.specs.Moves.{Move}
+use Rattle.wh_data.specs.declared.command.Command.{Command}
+use Rattle.wh_data.specs.declared.command.Command.TheVariants as commands
+use Rattle.wh_data.specs.ProblemData.{problem_of}
+use Rattle.wh_data.specs.ProblemData.ProblemData.{straighten}
+use Rattle.wh_text.specs.Problems.{problem}
 use Rattle.whitehead.specs.declared.arguments.Task.TheVariants as tasks
 use Rattle.whitehead.specs.Replies.{Replies}
-use Rattle.whitehead.specs.Replies.Replies.{answered}
-use Rattle.whitehead.proofs.KnownReplies.{reply_told}
+use Rattle.whitehead.proofs.ReadProblems.{straighten_of}
 use Rattle.whitehead.proofs.reply.problem_reply.Goals as goal
 
-pub returns : goal.returns
-returns c command bytes read =
-    reply_told (Replies c.args.limit bytes (tasks.Answer command)) (answer_status c.in_ok-answer.answer) (answer_text (answer_of c.in_ok-answer.answer)) c.reply_with-reply.result c.reply_with-reply.ensures.status c.reply_with-reply.ensures.text
-    (answered c.in_ok-answer.answer read c.in_ok-answer.ensures.answers)
+pub returns-in-Straighten : goal.returns-in-Straighten
+returns-in-Straighten c command bytes read =
+    let tuple = c.in-Straighten.tuple.plain in
+    let own : problem command bytes ≡ Ok (straighten tuple c.in-Straighten.moves) = read ∙ ap (λ p. Ok (problem_of p)) c.in-Straighten.is in
+    let is : command ≡ commands.Straighten = straighten_of command bytes tuple c.in-Straighten.moves own in
+    let stated : problem commands.Straighten bytes ≡ Ok (straighten tuple c.items.result.now) =
+    ap (λ (k : Command). problem k bytes) (sym is) ∙ own ∙ ap (λ (ms : List Move). Ok (straighten tuple ms)) (sym c.items.ensures) in
+    subst (λ (k : Command). IfOk c.straighten_reply.result (λ r. Replies c.args.limit bytes (tasks.Answer k) r.status r.text)) (sym is) (c.straighten_reply.ensures c.args.limit bytes stated)
