@@ -1,6 +1,5 @@
 -- Moves that carry one tuple onto another, and the inverse of a list.
-use Rattle.std.proofs.Common.{◌≡◌, ◌≤◌, List, [], ◌∷◌, ◌++◌, map, reverse, refl, sym, ap, ◌∙◌, subst, arith}
-use Rattle.std.proofs.lemmas.List.{map-append, reverse-append}
+use Rattle.std.proofs.Common.{◌≡◌, ◌≤◌, List, [], ◌∷◌, refl, sym, ap, ◌∙◌, subst, arith}
 use Rattle.wh_words.specs.Tuples.{TupleData, IsTuple}
 use Rattle.wh_words.specs.Moves.{Move, IsMove, inverse_move}
 use Rattle.wh_words.specs.MoveLists.{inverse_list}

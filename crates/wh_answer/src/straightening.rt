@@ -15,11 +15,7 @@ use wh_straighten::{StraightenError, straighten};
 use wh_words::{List, OutOfMemory, Tuple};
 
 /// Copies of a tuple and of moves.
-fn copies(
-    alloc: Global,
-    tuple: &Tuple,
-    moves: &[Move],
-) -> Result<(Tuple, List<Move>), OutOfMemory>
+fn copies(alloc: Global, tuple: &Tuple, moves: &[Move]) -> Result<(Tuple, List<Move>), OutOfMemory>
     ensures tuple { IfOk result (λ both. both.0.plain ≡ tuple.now.plain) }
     ensures moves { IfOk result (λ both. both.1 ≡ moves.now) }
 {
@@ -58,11 +54,7 @@ fn answer_with(
 /// place of the list, which are the same automorphism up to a conjugation, and the tuple that both lead to (Higgins and
 /// Lyndon 1974; Lyndon and Schupp, I.4). It can be printed. `TooLong` comes exactly where a tuple on the way of the list has
 /// more than 4,096 letters, and tells the first such tuple.
-pub fn straightened(
-    alloc: Global,
-    tuple: &Tuple,
-    given: &[Move],
-) -> Result<Answer, StraightenError>
+pub fn straightened(alloc: Global, tuple: &Tuple, given: &[Move]) -> Result<Answer, StraightenError>
     requires { All (λ m. m.rank ≡ tuple.now.plain.rank) given.now }
     ensures answers { (limit : ℕ) → IfOk result (Answers limit (to_straighten tuple.now.plain given.now)) }
     ensures printable { IfOk result (λ a. IsPrintable (answer_of a)) }

@@ -1,22 +1,17 @@
 -- Swaps and inversions as permutations of letters that are level moves of every tuple.
-use Rattle.std.proofs.Common.{◌≡◌, ℕ, ◌/◌, ◌+◌, ◌<◌, Bool, cond, List, [], ◌∷◌, ◌++◌, map, refl, sym, ap, ap₂, subst, ◌∙◌, inl, inr, arith, append-nil}
-use Rattle.std.proofs.lemmas.Bool.{cases_eq, eq-eqb, ne_eqb}
-use Rattle.std.proofs.lemmas.Bool.Decides.{nat_tests}
+use Rattle.std.proofs.Common.{◌≡◌, ℕ, List, [], ◌∷◌, ◌++◌, map, refl, sym, ap, ap₂, subst, ◌∙◌, arith}
 use Rattle.std.specs.Prelude.{Contains}
 use Rattle.wh_words.specs.Letters.{inverse_letter}
-use Rattle.wh_words.specs.Words.{free_reduction}
 use Rattle.wh_words.specs.CyclicWords.{cyclic_word}
 use Rattle.wh_words.specs.Tuples.{TupleData, IsTuple, tuple_length}
 use Rattle.wh_words.specs.Moves.{Kind, Move, IsKind, IsMove, IsIdentityCut, inverse_kind}
 use Rattle.wh_words.specs.Moves.Kind.{swap, invert, cut}
-use Rattle.wh_words.specs.Images.{image, swap_letter, invert_letter, inverse_word}
+use Rattle.wh_words.specs.Images.{image, swap_letter, invert_letter}
 use Rattle.wh_words.specs.Action.{substitute, act}
 use Rattle.wh_words.specs.Levels.{IsLevelMove}
-use Rattle.wh_words.proofs.FreeReduction.{inverse-inverse, inverse_generator}
 use Rattle.wh_words.proofs.LetterMaps.{swap_back, invert_back}
 use Rattle.wh_words.proofs.ImageLetters.{act_tuple}
 use Rattle.wh_words.proofs.Mapped.{swap_turns, invert_turns}
-use Rattle.wh_words.proofs.MoveLaws.{image_of_inverse}
 use Rattle.wh_moves.proofs.Substitutions.{of_class}
 use Rattle.wh_moves.proofs.InverseMoves.{image_cancels, undone}
 use Rattle.wh_graph.proofs.Lengths.{swaps_keep, inversions_keep}

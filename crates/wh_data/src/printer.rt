@@ -184,7 +184,10 @@ fn print_body(out: &mut Vec<u8>, answer: &Answer) -> Result<(), OutOfMemory>
         Answer::Reduce { side, .. } => print_side(out, side),
         Answer::Decide { verdict, .. } => print_after_verdict(out, verdict),
         Answer::Straighten {
-            given, moves, end, ..
+            given,
+            moves,
+            end,
+            ..
         } => print_straightened(out, given.items(), moves.items(), end),
     }
 }

@@ -16,7 +16,6 @@ use Rattle.wh_words.specs.LetterSets.{in_set}
 use Rattle.wh_words.specs.Moves.{Kind, IsKind}
 use Rattle.wh_words.specs.Moves.Kind.{swap, invert, cut}
 use Rattle.wh_lines.specs.declared.read_error.ReadError.TheVariants as errors
-use Rattle.wh_lines.specs.Lines.{Field}
 use Rattle.wh_lines.specs.Readings.{◌>>=◌, items_at}
 use Rattle.wh_lines.specs.Numbers.{number}
 use Rattle.wh_lines.proofs.NumberLaws.{reads_numbers}

@@ -185,7 +185,6 @@ body_again rows (decide s t v) heads is = (
     };
   }),
 )
-
 body_again rows (straighten t given ms u) heads is = absurd is
 
 -- ---- the last line

@@ -1,5 +1,5 @@
 -- A certificate is refused at a line by the lines up to it: for the law on refused lines.
-use Rattle.std.proofs.Common.{◌≡◌, ℕ, ◌+◌, ltb, ◌==◌, Bool, true, false, cond, List, [], ◌∷◌, ◌++◌, length, map, refl, sym, ap, ◌∙◌, subst, arith, None, Some, Result, Ok, Err, inl, inr}
+use Rattle.std.proofs.Common.{◌≡◌, ℕ, ◌+◌, ltb, ◌==◌, Bool, true, false, cond, List, [], ◌∷◌, ◌++◌, length, map, refl, sym, ap, subst, arith, None, Some, Result, Ok, Err, inl, inr}
 use Rattle.std.specs.Prelude.{◌&&◌, ◌||◌, leb, is_some, codes}
 use Rattle.std.specs.declared.option.Option.{Option}
 use Rattle.std.specs.List.{sum_by}
@@ -11,7 +11,7 @@ use Rattle.wh_lines.specs.declared.read_error.ReadError.{ReadError}
 use Rattle.wh_lines.specs.declared.read_error.ReadError.TheVariants as errors
 use Rattle.wh_lines.specs.Lines.{Field, lines, are}
 use Rattle.wh_lines.specs.Numbers.{number}
-use Rattle.wh_lines.specs.Readings.{◌>>=◌, items_at, or_bad_line, refused_as}
+use Rattle.wh_lines.specs.Readings.{◌>>=◌, or_bad_line, refused_as}
 use Rattle.wh_lines.specs.KeptLines.{Kept, Rest, rest}
 use Rattle.wh_lines.specs.KeptLines.Rest.{line, bad_byte, end}
 use Rattle.wh_lines.specs.LineReadings.{Reading, start, line_after, line_of, end_after, times}

@@ -7,7 +7,7 @@ use Rattle.wh_words.specs.Tuples.{TupleData}
 use Rattle.wh_words.specs.Moves.{Move}
 use Rattle.wh_lines.specs.declared.read_error.ReadError.{ReadError}
 use Rattle.wh_lines.specs.declared.read_error.ReadError.TheVariants as errors
-use Rattle.wh_lines.specs.Lines.{Field, lines, are}
+use Rattle.wh_lines.specs.Lines.{lines}
 use Rattle.wh_lines.specs.Readings.{◌>>=◌, refused_as}
 use Rattle.wh_lines.specs.KeptLines.{Kept, Rest, rest}
 use Rattle.wh_lines.specs.KeptLines.Rest.{line, bad_byte, end}
@@ -18,7 +18,7 @@ use Rattle.wh_lines.proofs.Scanning.{eq_true}
 use Rattle.wh_lines.proofs.NextLines.{behind, line_told, line_there}
 use Rattle.wh_lines.specs.Rows.{Row, number_row}
 use Rattle.wh_lines.proofs.RowReadings.{Tells, columns, columns_are}
-use Rattle.wh_lines.proofs.RestRows.{Holds, AllSome, HaveRows, kept_row, holds_is, holds_back, rest_all_some}
+use Rattle.wh_lines.proofs.RestRows.{Holds, AllSome, HaveRows, holds_is, holds_back, rest_all_some}
 use Rattle.wh_fields.specs.Words.{word_text}
 use Rattle.wh_data.specs.declared.command.Command.{Command}
 use Rattle.wh_data.specs.declared.command.Command.TheVariants as commands

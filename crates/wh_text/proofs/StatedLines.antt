@@ -1,5 +1,5 @@
 -- Reading what is stated line by line to the end: for the loop over the lines of a problem.
-use Rattle.std.proofs.Common.{◌≡◌, ℕ, suc, ◌<◌, Bool, true, false, cond, List, [], ◌∷◌, ◌++◌, append-nil, append_assoc, sym, ap, ◌∙◌, refl, arith, Result, Ok, Err}
+use Rattle.std.proofs.Common.{◌≡◌, ℕ, suc, ◌<◌, Bool, true, false, List, [], ◌∷◌, ◌++◌, append-nil, append_assoc, sym, ap, ◌∙◌, refl, arith, Result, Ok, Err}
 use Rattle.std.proofs.lemmas.Bool.{cond-true, cond-false}
 use Rattle.wh_words.specs.Tuples.{TupleData}
 use Rattle.wh_words.specs.Moves.{Move}

@@ -43,7 +43,13 @@ pub fn print_too_long(alloc: Global, place: u64, length: u64) -> Result<Vec<u8>,
     ensures { IfOk result (λ v. v.items ≡ too_long_text place length) }
 {
     let mut out = Vec::new(alloc);
-    push_two(&mut out, b"refused too-long move ", place, b" length ", length)?;
+    push_two(
+        &mut out,
+        b"refused too-long move ",
+        place,
+        b" length ",
+        length,
+    )?;
     out.push(b'\n')?;
     Ok(out)
 }

@@ -1,4 +1,4 @@
-use Rattle.std.proofs.Common.{◌≡◌, List, sym, ap, subst, rules}
+use Rattle.std.proofs.Common.{◌≡◌, List, sym, ap, subst}
 use Rattle.wh_words.specs.Tuples.{Tuple}
 use Rattle.wh_words.specs.Moves.{Move}
 use Rattle.wh_words.specs.Action.{act_all as led_to}

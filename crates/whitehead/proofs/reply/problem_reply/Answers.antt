@@ -1,4 +1,4 @@
-use Rattle.std.proofs.Common.{◌≡◌, ◌∙◌, List, sym, ap, subst, rules, Ok}
+use Rattle.std.proofs.Common.{◌≡◌, ◌∙◌, List, sym, ap, subst, Ok}
 use Rattle.std.specs.Prelude.{IfOk}
 use Rattle.wh_words.specs.Moves.{Move}
 use Rattle.wh_data.specs.declared.command.Command.{Command}
