@@ -30,10 +30,16 @@ fn advance(here: &mut Tuple, m: &Move, spare: &mut Tuple)
 fn is_corner(top: &Tuple, left: &Move, right: &Move) -> bool
     ensures { IsTrue result ↔ IsCorner top.now.plain left.now right.now }
 {
+    if left == right {
+        return true;
+    }
     let height = top.length();
-    let before = acted_length(top, left);
     let after = acted_length(top, right);
-    left == right || before <= height && after <= height && before + after < 2 * height
+    if after > height {
+        return false;
+    }
+    let before = acted_length(top, left);
+    before <= height && before + after < 2 * height
 }
 
 /// The way back along the last move that is done, where it and the next move make a corner.
