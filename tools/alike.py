@@ -8,9 +8,10 @@ letters than there is room for. Then random representations of the group by matr
 field, are pulled back along both lists, move by move: of alike lists this makes two representations that some invertible
 matrix conjugates into each other, and that matrix solves linear equations. So where some representation has no such
 matrix, the lists aren't alike, and this is exact. Where all have one, that the lists are alike is told with a tiny chance
-of error: for lists that aren't, the matrices are as good as random, and an error would take a coincidence of several
-numbers of 61 bits for each representation. It needs three by three: two by two matrices of determinant 1 don't tell a
-word from its inverse by their traces. The representations are the same each time.
+of error: an error takes several coincidences of numbers of 61 bits in each representation. No bound for it is proved, since
+for long lists these numbers are polynomials of very great degree in random ones. The matrices are three by three, since
+the traces of two by two matrices of determinant 1 don't tell a word from its inverse. The representations are the same
+each time.
 
 A move is told by its images here: the words that it takes the letters to. Letters are numbers, so that x ^ 1 is the
 inverse of x.
