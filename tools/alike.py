@@ -135,6 +135,14 @@ def without(row, pivot, column):
     return [(a - row[column] * b) % PRIME for a, b in zip(row, pivot)]
 
 
+def solution(pivots, one, count):
+    """What solves equations, each with a 1 in a column of its own, where one other unknown is 1 and all others are 0."""
+    values = [int(column == one) for column in range(count)]
+    for column, pivot in pivots.items():
+        values[column] = -pivot[one] % PRIME
+    return values
+
+
 def solutions(equations, count):
     """A basis of what solves linear equations in so many unknowns: each is a row, whose product with a solution is 0."""
     pivots = {}
@@ -147,8 +155,7 @@ def solutions(equations, count):
             row = [scale * a % PRIME for a in row]
             pivots = {other: without(pivot, row, column) for other, pivot in pivots.items()}
             pivots[column] = row
-    free = [column for column in range(count) if column not in pivots]
-    return [[-pivots[column][one] % PRIME if column in pivots else int(column == one) for column in range(count)] for one in free]
+    return [solution(pivots, column, count) for column in range(count) if column not in pivots]
 
 
 def equations_of(first, second):
@@ -164,8 +171,8 @@ def are_conjugate(first, second):
     basis = solutions(equations, len(PLACES))
     if len(basis) != 1:
         return bool(basis)
-    (solution,) = basis
-    return determinant([solution[SIZE * row : SIZE * (row + 1)] for row in range(SIZE)]) != 0
+    (values,) = basis
+    return determinant([values[SIZE * row : SIZE * (row + 1)] for row in range(SIZE)]) != 0
 
 
 def all_pulled_back(values, moves):
