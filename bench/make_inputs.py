@@ -10,7 +10,8 @@ import sys
 
 ROOT = pathlib.Path(__file__).parent
 sys.path.insert(0, str(ROOT.parent / "tools"))
-from check_certificate import act, cyclic_word, inverse
+from check_certificate import act, cyclic_word, images_of, inverse, length, taken_by
+from random_certificates import moves_line
 
 
 def text(word):
@@ -32,20 +33,52 @@ def reduced(rng, rank, length):
     return word
 
 
+def random_cut(rng, rank):
+    multiplier = rng.randrange(2 * rank)
+    others = (x for x in range(2 * rank) if x // 2 != multiplier // 2 and rng.random() < 0.4)
+    return "cut", multiplier, frozenset([multiplier, *others])
+
+
 def primitive(rng, rank, least, most):
     """The image of a generator under random cuts, with at least so many letters."""
     words = [[0]]
     while len(words[0]) < least:
-        multiplier = rng.randrange(2 * rank)
-        others = (x for x in range(2 * rank) if x // 2 != multiplier // 2 and rng.random() < 0.4)
-        moved = act(words, ("cut", multiplier, frozenset([multiplier, *others])))
+        moved = act(words, random_cut(rng, rank))
         if len(moved[0]) <= most:
             words = moved
     return words[0]
 
 
-def write(name, comment, rank, *tuples):
+def random_move(rng, rank, words):
+    """A swap, an inversion, or a cut: some cuts at random, and others that take the second of two neighbouring letters of a
+    tuple away wherever they stand side by side, which shorten as often as not."""
+    way = rng.randrange(10)
+    if way == 0:
+        return rng.choice([("swap", rng.randrange(1, rank)), ("invert", rng.randrange(1, rank + 1))])
+    word = rng.choice(words)
+    place = rng.randrange(len(word))
+    before, multiplier = word[place - 1], inverse(word[place])
+    if way < 7 or before // 2 == multiplier // 2:
+        return random_cut(rng, rank)
+    return "cut", multiplier, frozenset([multiplier, before])
+
+
+def wandering(rng, rank, words, count, most):
+    """So many random moves, each of which changes a tuple, on whose way it has at most so many letters."""
+    moves = []
+    while len(moves) < count:
+        move = random_move(rng, rank, words)
+        moved = taken_by(words, images_of(rank, move))
+        if moved != words and length(moved) <= most:
+            moves.append(move)
+            words = moved
+    return moves
+
+
+def write(name, comment, rank, *tuples, moves=None):
     lines = [" ".join(["tuple"] + [text(word) for word in words]) for words in tuples]
+    if moves is not None:
+        lines.append(moves_line("moves", moves))
     (ROOT / "inputs" / f"{name}.txt").write_text("\n".join([f"# {comment}", f"rank {rank}", *lines]) + "\n")
 
 
@@ -88,6 +121,10 @@ def main():
     write("no_level_periodic_rank4", "The same 30 times over: words of 240 letters.", 4, [squares(4) * 30], [surface(2) * 30])
     write("no_level_long_rank6", "Two random words of 240 letters.", 6, *[[reduced(rng, 6, 240)] for _ in range(2)])
     write("words_rank3", "Twenty words of three letters and more, and the same with every generator inverted.", 3, *[[[x ^ flip for x in word] for word in ([0, 2, 4] * (k % 3 + 1) + [2 * (k % 3)] * (k % 4) for k in range(20))] for flip in (0, 1)])
+    for rank in (2, 3, 6, 26):
+        basis = [[2 * g] for g in range(rank)]
+        moves = wandering(rng, rank, basis, 1024, 1000)
+        write(f"straighten_rank{rank}", "1,024 random moves, on whose way a basis gets up to 1,000 letters.", rank, basis, moves=moves)
 
 
 if __name__ == "__main__":

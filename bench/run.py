@@ -3,7 +3,8 @@
 
     run.py
 
-It asserts nothing. `./whitehead` builds the program.
+It asserts nothing: an answer that is no certificate, as that of `straighten`, is refused by `check`, and this is the
+verdict that is printed. `./whitehead` builds the program.
 """
 
 import math
@@ -20,18 +21,25 @@ PROGRAM = ROOT.parent / "crates" / "wh_main" / "out" / "wh_main"
 
 
 def words_for(path):
-    """The words of the command line: two tuples are to be decided, with the greatest limit where the level is large."""
-    tuples = sum(line.startswith("tuple") for line in path.read_text().splitlines())
-    if tuples == 1:
+    """The words of the command line: moves are to be straightened, and two tuples to be decided, with the greatest limit
+    where the level is large."""
+    keywords = [line.split(" ")[0] for line in path.read_text().splitlines()]
+    if "moves" in keywords:
+        return ["straighten"]
+    if keywords.count("tuple") == 1:
         return ["reduce"]
     return ["decide", "--limit", "131072"] if "level" in path.stem else ["decide"]
 
 
 def told(answer):
-    """What the answer tells in short: the number of moves of its first line of moves, or its verdict."""
+    """What the answer tells in short: the number of moves of its first line of moves, with that of the given ones where a
+    list was straightened, or its verdict."""
+    given = ""
     for line in answer.splitlines():
+        if line.startswith("given"):
+            given = f"{len(line.split()) - 1} -> "
         if line.startswith(("trace", "moves")):
-            return f"{len(line.split()) - 1} moves"
+            return f"{given}{len(line.split()) - 1} moves"
         if line.startswith("verdict ") and line != "verdict yes":
             return line.removeprefix("verdict ")
     return "refused"

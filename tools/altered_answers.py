@@ -1,4 +1,4 @@
-"""Right answers of `reduce` and `decide`, and what is found of them where they are altered.
+"""Right answers, and what is found of them where they are altered.
 
 What is found was written by hand, by the rules that stand in `check_certificate`.
 """
@@ -393,6 +393,9 @@ moves i1 i1
 done
 """
 OTHER_TEXTS = [
+    ("whitehead 1 straighten", "refused no-certificate line 1"),
+    ("whitehead 1 straighten\nrank 99\ntuple ?\nmoves a:b s0\n\0\n", "refused no-certificate line 1"),
+    ("# a straight list\n\n whitehead  1  straighten \ndone\n", "refused no-certificate line 3"),
     (STABILISER, "refused no-certificate line 1"),
     (GEN, "refused no-certificate line 1"),
     ("", "refused bad-line line 1"),
@@ -777,4 +780,164 @@ WITH_OPTIONS = [
     ("Check", TORUS, "refused words"),
     ("check --limit 0", TORUS, "refused words"),
     ("check --edges 5", TORUS, "refused words"),
+]
+
+# ---- straight lists
+
+# A list that comes back, and is undone. One whose lengths fall, stay and rise, and is printed as it is. One over a peak of
+# abc, and round it by b.
+UNDONE = """whitehead 1 straighten
+rank 2
+tuple a
+given b:ab a:ab b:ab B:aB A:Ab B:aB
+moves
+end a
+done
+"""
+VALLEY = """whitehead 1 straighten
+rank 2
+tuple ab
+given a:aB s1 i2 b:ab
+moves a:aB s1 i2 b:ab
+end ab
+done
+"""
+PEAK = """whitehead 1 straighten
+rank 3
+tuple ab
+given c:bc A:Ac
+moves A:Abc c:bc
+end bc
+done
+"""
+
+# Moves that take each letter to its inverse, which turns abAB round. They aren't a conjugation.
+TURNED = """whitehead 1 straighten
+rank 2
+tuple abAB
+given i1 i2
+moves i2 i1
+end abAB
+done
+"""
+
+# The empty word stays what it is, so that each list is straight.
+NOWHERE = """whitehead 1 straighten
+rank 3
+tuple 1
+given a:ab b:ab
+moves a:ab b:ab
+end 1
+done
+"""
+
+# Moves whose composite has images of some 10^16 letters, and back again.
+OUT = " ".join(["a:ab b:ab"] * 40)
+BACK = " ".join(["B:aB A:Ab"] * 40)
+FIBONACCI = NOWHERE.replace("given a:ab b:ab\nmoves a:ab b:ab", f"given {OUT} {BACK}\nmoves")
+
+# A move that makes a power of b twice as long, and back.
+DOUBLED_AND_HALVED = """whitehead 1 straighten
+rank 2
+tuple b
+given a:ab A:Ab
+moves
+end b
+done
+"""
+
+STRAIGHT = [UNDONE, VALLEY, PEAK, TURNED, NOWHERE, FIBONACCI, DOUBLED_AND_HALVED]
+
+# Such an answer, what is replaced in it, by what, and what is found where straight lists are asked for.
+STRAIGHT_ALTERATIONS = [
+    # ---- lines, fields and bytes
+    (UNDONE, "whitehead 1 straighten\nrank 2", "# a comment\n whitehead  1  straighten\n\nrank 2 ", "valid"),
+    (UNDONE, "done\n", "done", "valid"),
+    (UNDONE, "tuple a", "tuple Bab", "valid"),
+    (UNDONE, "end a", "end baB", "valid"),
+    (PEAK, "tuple ab", "tuple ba", "valid"),
+    (UNDONE, "rank 2", "rank 26", "valid"),
+    (UNDONE, "1 straighten", "1 reduce", "refused no-certificate line 1"),
+    (UNDONE, "1 straighten", "1 decide", "refused no-certificate line 1"),
+    (UNDONE, "1 straighten\nrank 2", "1 gen\n\t", "refused no-certificate line 1"),
+    (UNDONE, "1 straighten", "2 straighten", "refused bad-line line 1"),
+    (UNDONE, "1 straighten", "1 straight", "refused bad-line line 1"),
+    (UNDONE, "rank 2", "rank 27", "refused bad-line line 2"),
+    (UNDONE, "rank 2", "rank 1", "refused bad-line line 4"),
+    (UNDONE, "tuple a", "first a", "refused bad-line line 3"),
+    (UNDONE, "tuple a", "tuple a b", "refused bad-line line 6"),
+    (UNDONE, "given b:ab", "given ab:b", "refused bad-line line 4"),
+    (UNDONE, "given", "moves", "refused bad-line line 4"),
+    (UNDONE, "moves", "given", "refused bad-line line 5"),
+    (UNDONE, "moves", "moves s2", "refused bad-line line 5"),
+    (UNDONE, "moves\n", "", "refused bad-line line 5"),
+    (UNDONE, "end a\n", "", "refused bad-line line 6"),
+    (UNDONE, "done\n", "", "refused bad-line line 7"),
+    (UNDONE, "done\n", "done\ndone\n", "refused bad-line line 8"),
+    (UNDONE, "moves", "moves\t", "refused bad-byte line 5 column 6"),
+    (UNDONE, "given b:ab a:ab b:ab B:aB A:Ab B:aB", "given" + " i1" * 1024, "valid"),
+    (UNDONE, "given b:ab a:ab b:ab B:aB A:Ab B:aB", "given" + " i1" * 1026, "refused bad-line line 4"),
+    (UNDONE, "moves", "moves" + " i1" * 1026, "valid"),
+    # ---- tuples that are too long
+    (UNDONE, "given b:ab", f"given {NEAR} b:ab", "valid"),
+    (UNDONE, "given b:ab", f"given {FAR} b:ab", "invalid line 4 long"),
+    (UNDONE, "moves", f"moves {NEAR}", "invalid line 5 straight"),
+    (UNDONE, "moves", f"moves {FAR}", "invalid line 5 long"),
+    (UNDONE, "moves", f"moves {OUT}", "invalid line 5 long"),
+    (DOUBLED_AND_HALVED, "tuple b", f"tuple {'b' * 2049}", "invalid line 4 long"),
+    (DOUBLED_AND_HALVED, "tuple b", f"tuple {'b' * 2048}", "invalid line 6 end"),
+    (DOUBLED_AND_HALVED, "tuple b", f"tuple a{'b' * 2048}", "invalid line 4 long"),
+    (DOUBLED_AND_HALVED.replace("tuple b", f"tuple {'b' * 2048}"), "end b", f"end {'b' * 2048}", "valid"),
+    # ---- lists that aren't straight
+    (UNDONE, "moves", "moves b:ab a:ab b:ab B:aB A:Ab B:aB", "invalid line 5 straight"),
+    (UNDONE, "moves", "moves b:ab B:aB", "invalid line 5 straight"),
+    (PEAK, "moves A:Abc c:bc", "moves c:bc A:Ac", "invalid line 5 straight"),
+    (VALLEY, "moves a:aB", "moves s1 s1 a:aB", "invalid line 5 straight"),
+    (VALLEY, "moves a:aB s1 i2 b:ab", "moves a:aB s1 i2 b:ab s1 s1", "invalid line 5 straight"),
+    (VALLEY, "moves a:aB s1 i2 b:ab", "moves a:aB s1 i2 b:ab B:aB b:ab", "invalid line 5 straight"),
+    (VALLEY, "moves a:aB", "moves a:aB A:Ab a:aB", "invalid line 5 straight"),
+    # ---- other automorphisms: a conjugation, or a list that is the same, makes no difference
+    (UNDONE, "moves", "moves a:abB", "valid"),
+    (UNDONE, "moves", "moves b:aAb a:abB b:aAb A:AbB", "valid"),
+    (UNDONE, "moves", "moves a:a B:B", "valid"),
+    (UNDONE, "moves", "moves i1", "invalid line 5 alike"),
+    # What is left out, or put in, does nothing to the tuple on which it acts.
+    (UNDONE, "moves", "moves i2", "invalid line 5 alike"),
+    (UNDONE, "moves", "moves a:ab", "invalid line 5 alike"),
+    (VALLEY, "moves a:aB s1 i2 b:ab", "moves a:aB s1 b:ab", "invalid line 5 alike"),
+    (VALLEY, "moves a:aB s1 i2", "moves a:aB i1 s1 i2", "invalid line 5 alike"),
+    (VALLEY, "moves a:aB s1 i2 b:ab", "moves a:aB s1 i2 a:abB b:ab", "valid"),
+    (VALLEY, "moves a:aB s1 i2 b:ab", "moves a:aB s1 i2 b:ab a:abB", "invalid line 5 straight"),
+    (PEAK, "moves A:Abc c:bc", "moves A:Ab c:bc", "invalid line 5 alike"),
+    (PEAK, "moves A:Abc c:bc", "moves A:Abc a:abB c:bc", "invalid line 5 alike"),
+    (PEAK, "moves A:Abc c:bc", "moves A:Abc a:abBcC c:bc", "valid"),
+    (TURNED, "moves i2 i1", "moves", "invalid line 5 alike"),
+    (TURNED, "moves i2 i1", "moves i1", "invalid line 5 alike"),
+    # The other order, the inverse, and a conjugation of some generators alone.
+    (NOWHERE, "moves a:ab b:ab", "moves b:ab a:ab", "invalid line 5 alike"),
+    (NOWHERE, "moves a:ab b:ab", "moves B:aB A:Ab", "invalid line 5 alike"),
+    (NOWHERE, "moves a:ab b:ab", "moves a:abB b:ab a:ab A:AbB", "invalid line 5 alike"),
+    (NOWHERE, "moves a:ab b:ab", "moves a:abcC b:ab", "invalid line 5 alike"),
+    (NOWHERE, "moves a:ab b:ab", "moves a:ab b:ab c:aAbBc", "valid"),
+    (NOWHERE, "moves a:ab b:ab", "moves c:aAbBc a:ab b:ab", "valid"),
+    (NOWHERE, "moves a:ab b:ab", "moves A:ABcC b:ab", "valid"),
+    (NOWHERE, "moves a:ab b:ab", "moves a:ab b:ab b:aAb", "invalid line 5 alike"),
+    (NOWHERE, "moves a:ab b:ab", "moves", "invalid line 5 alike"),
+    # With images of very many letters.
+    (FIBONACCI, "moves", "moves b:aAbcC", "valid"),
+    (FIBONACCI, "moves", "moves b:aAb", "invalid line 5 alike"),
+    (FIBONACCI, BACK, BACK.replace("B:aB", "B:AB", 1), "invalid line 5 alike"),
+    (FIBONACCI, f"given {OUT} {BACK}\nmoves", f"given {OUT}\nmoves {OUT}", "valid"),
+    (FIBONACCI, f"given {OUT} {BACK}\nmoves", f"given {OUT}\nmoves c:aAbBc {OUT}", "valid"),
+    (FIBONACCI, f"given {OUT} {BACK}\nmoves", f"given {OUT}\nmoves {BACK}", "invalid line 5 alike"),
+    (FIBONACCI, f"given {OUT} {BACK}\nmoves", f"given {OUT}\nmoves i1 i2 i3 {OUT} i1 i2 i3", "invalid line 5 alike"),
+    # ---- the end is another one
+    (UNDONE, "end a", "end A", "invalid line 6 end"),
+    (UNDONE, "end a", "end b", "invalid line 6 end"),
+    (UNDONE, "end a", "end aa", "invalid line 6 end"),
+    (UNDONE, "tuple a", "tuple aB", "invalid line 6 end"),
+    (PEAK, "end bc", "end ab", "invalid line 6 end"),
+    (PEAK, "tuple ab", "tuple aab", "invalid line 6 end"),
+    (TURNED, "end abAB", "end aBAb", "invalid line 6 end"),
+    (TURNED, "end abAB", "end BabA", "valid"),
 ]

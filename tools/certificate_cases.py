@@ -47,19 +47,31 @@ def altered(answer, old, new):
     return answer.replace(old, new, 1)
 
 
+def is_straightened(text):
+    return text.startswith("whitehead 1 straighten\n")
+
+
+def stored_verdict(text):
+    """What an answer of the program gets. The fifth line of an answer of `decide` has the verdict."""
+    if is_straightened(text):
+        return "refused no-certificate line 1"
+    return "refused no-certificate line 5" if "\nverdict undecided " in text else "valid"
+
+
 def stored_cases():
-    """Answers of the program. The fifth line of an undecided one has its verdict."""
+    """Answers of the program."""
     for path in sorted((table.ROOT / "examples" / "answers").glob("*.txt")):
         text = path.read_text()
         if len(text) <= MOST_STORED:
-            undecided = "\nverdict undecided " in text
-            yield check_of(text, "refused no-certificate line 5" if undecided else "valid")
+            yield check_of(text, stored_verdict(text))
 
 
 def written_cases():
     """Texts whose verdict was written by hand."""
     for answer in altered_answers.RIGHT:
         yield check_of(answer, "valid")
+    for answer in altered_answers.STRAIGHT:
+        yield check_of(answer, "refused no-certificate line 1")
     for text, told in altered_answers.OTHER_TEXTS:
         yield check_of(text, told)
     for answer, old, new, told in altered_answers.ALTERATIONS:

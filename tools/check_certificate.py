@@ -2,6 +2,7 @@
 """Checks an answer of `whitehead reduce` or `whitehead decide`, and shares nothing with the program.
 
     check_certificate.py < answer
+    check_certificate.py --straightened < answer      checks an answer of `whitehead straighten`; see below
 
 It reads the answer on standard input and writes the very line that `whitehead check` writes, with its exit status:
 
@@ -51,6 +52,29 @@ In an `at` line:
 So a valid trace takes a tuple to its end, and flows show that no cut shortens the end. A valid yes carries the first
 tuple onto the second. A valid level shows that moves which keep the length never take the first end to the second.
 
+`whitehead check` has no rules for answers of `straighten`, and refuses them. With --straightened they are checked by the
+rules that follow, and the answers of all other commands are refused by `no-certificate`. Between the line of the rank and
+`done` such an answer has the lines `tuple WORDS`, `given MOVES` with at most 1,024 moves, `moves MOVES` and `end WORDS`.
+
+In the line `given`:
+
+    long      Some tuple on the way of the given list has more than 4,096 letters.
+
+In the line `moves`:
+
+    long      Some tuple on the way of the moves has more than 4,096 letters.
+    straight  The lengths of the tuples on the way don't fall at each move, then stay, and then rise at each move.
+    alike     The moves and the given list aren't one automorphism up to conjugation. Where images of generators have many
+              letters on the way, a difference that is found is there, and that there is none is told with a tiny chance of
+              error: `alike` says how.
+
+In the line `end`:
+
+    end       The given list or the moves don't take the tuple to the end.
+
+So the moves of a valid answer do what the given list does, and no tuple on their way is longer than both the first and the
+last; where no cut shortens either of these, all have one length.
+
 Letters are numbers here: generator g (from 0) is 2 g and its inverse 2 g + 1, so that x ^ 1 is the inverse of x.
 """
 
@@ -59,15 +83,19 @@ import itertools
 import re
 import sys
 
+from alike import are_alike
+
 MOST_BYTES = 67108864
 GREATEST_RANK = 26
 GREATEST_LEVEL_RANK = 6
 MOST_TUPLES = 131072
+MOST_GIVEN = 1024
 MOST_LETTERS = 4096
 MOST_WORDS = 64
 MOST_VALUE = 2**32 - 1
 MOST_NUMBER = 2**64 - 1
 
+COMMANDS = ("reduce", "decide", "straighten", "stabiliser", "gen")
 BAD_BYTE = re.compile(rb"[^ -~]")
 CANONICAL_NUMBER = re.compile("0|[1-9][0-9]{0,19}")
 
@@ -181,6 +209,11 @@ def length(words):
     return sum(len(word) for word in words)
 
 
+def images_of(rank, move):
+    """The words that a move takes the letters to."""
+    return [image(move, x) for x in range(2 * rank)]
+
+
 def every_move(rank):
     """All swaps, inversions and cuts of a rank."""
     yield from (("swap", k) for k in range(1, rank))
@@ -196,17 +229,22 @@ def every_move(rank):
 @functools.cache
 def every_images(rank):
     """The words that each move of a rank takes the letters to."""
-    return [[image(move, x) for x in range(2 * rank)] for move in every_move(rank)]
+    return [images_of(rank, move) for move in every_move(rank)]
 
 
 def hashed(words):
     return tuple(tuple(word) for word in words)
 
 
+def taken_by(words, images):
+    """What a move, given by its images, takes words to, each in some rotation of its cyclic word."""
+    return [cyclically_reduced([y for x in word for y in images[x]]) for word in words]
+
+
 def leads_out(words, moves, level):
     """Whether some move, given by its images, takes a tuple to one that is as long and isn't in the level."""
     for images in moves:
-        taken = [cyclically_reduced([y for x in word for y in images[x]]) for word in words]
+        taken = taken_by(words, images)
         if length(taken) == length(words) and hashed(map(first_rotation, taken)) not in level:
             return True
     return False
@@ -491,13 +529,60 @@ def check_decided(reader):
         raise BadLine(line)
 
 
-def read_heading(reader):
-    """The command of the first line."""
-    line, heading = reader.next("whitehead")
-    if heading in (["1", "straighten"], ["1", "stabiliser"], ["1", "gen"]):
-        raise NoCertificate(line)
-    if heading not in (["1", "reduce"], ["1", "decide"]):
+# ---- straight lists
+
+
+def find_way(line, words, moves):
+    """Where moves, given by their images, lead from a tuple, and the lengths on the way. No tuple there is too long."""
+    lengths = [length(words)]
+    for images in moves:
+        words = taken_by(words, images)
+        lengths.append(length(words))
+        if lengths[-1] > MOST_LETTERS:
+            raise Broken(line, "long")
+    return list(map(first_rotation, words)), lengths
+
+
+def is_straight(lengths):
+    """Whether lengths fall, then stay, and then rise."""
+    steps = [(after > before) - (after < before) for before, after in zip(lengths, lengths[1:])]
+    return steps == sorted(steps)
+
+
+def read_given(reader):
+    line, moves = reader.moves("given")
+    if len(moves) > MOST_GIVEN:
         raise BadLine(line)
+    return line, moves
+
+
+def check_straight(reader):
+    _, words = reader.tuple("tuple")
+    given_line, given = read_given(reader)
+    moves_line, moves = reader.moves("moves")
+    end_line, end = reader.tuple("end")
+    read_end(reader)
+    given, moves = [[images_of(reader.rank, move) for move in each] for each in (given, moves)]
+    given_end, _ = find_way(given_line, words, given)
+    moves_end, lengths = find_way(moves_line, words, moves)
+    if not is_straight(lengths):
+        raise Broken(moves_line, "straight")
+    if not are_alike(reader.rank, given, moves):
+        raise Broken(moves_line, "alike")
+    if given_end != end or moves_end != end:
+        raise Broken(end_line, "end")
+
+
+# ---- all answers
+
+
+def read_heading(reader, commands):
+    """The command of the first line, which has to be one of these."""
+    line, heading = reader.next("whitehead")
+    if len(heading) != 2 or heading[0] != "1" or heading[1] not in COMMANDS:
+        raise BadLine(line)
+    if heading[1] not in commands:
+        raise NoCertificate(line)
     return heading[1]
 
 
@@ -515,7 +600,7 @@ def read_rank(reader, greatest):
 def check(data):
     """Returns where the answer is valid, and raises Refused or Broken elsewhere."""
     reader = Reader(data)
-    if read_heading(reader) == "reduce":
+    if read_heading(reader, ("reduce", "decide")) == "reduce":
         reader.rank = read_rank(reader, GREATEST_RANK)
         check_reduced(reader)
     else:
@@ -523,10 +608,18 @@ def check(data):
         check_decided(reader)
 
 
-def found(data):
+def check_straightened(data):
+    """The same for an answer of `straighten`."""
+    reader = Reader(data)
+    read_heading(reader, ("straighten",))
+    reader.rank = read_rank(reader, GREATEST_RANK)
+    check_straight(reader)
+
+
+def found(data, checked=check):
     """What is told of a text, and the exit status."""
     try:
-        check(data)
+        checked(data)
     except Refused as refused:
         return f"refused {refused.cause}", 2
     except Broken as broken:
@@ -535,10 +628,11 @@ def found(data):
 
 
 def main(words):
-    if words:
+    if words not in ([], ["--straightened"]):
         print(__doc__, file=sys.stdout if words == ["--help"] else sys.stderr)
         return 0 if words == ["--help"] else 64
-    text, status = found(sys.stdin.buffer.read(MOST_BYTES + 1))
+    data = sys.stdin.buffer.read(MOST_BYTES + 1)
+    text, status = found(data, check_straightened if words else check)
     print(text)
     return status
 

@@ -18,9 +18,9 @@ LIMITS = {"planes": 1000}
 
 
 def words(name, problem):
-    """The words of the command line that an example is for: two tuples are to be decided."""
-    tuples = sum(line.startswith("tuple") for line in problem.splitlines())
-    command = "decide" if tuples == 2 else "reduce"
+    """The words of the command line that an example is for: moves are to be straightened, and two tuples to be decided."""
+    keywords = [line.split(" ")[0] for line in problem.splitlines()]
+    command = "straighten" if "moves" in keywords else "decide" if keywords.count("tuple") == 2 else "reduce"
     return f"{command} --limit {LIMITS[name]}" if name in LIMITS else command
 
 

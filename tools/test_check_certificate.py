@@ -1,5 +1,5 @@
 #!/usr/bin/env python3
-"""Runs the checker of certificates on stored answers, and on the cases of `check` in the table of runs.
+"""Runs the checker of certificates on stored answers, on the cases of `check` in the table of runs, and on straight lists.
 
     test_check_certificate.py
 
@@ -9,18 +9,27 @@ the checker agree on it, and share nothing.
 
 It ends with status 0 exactly where all of these hold:
 
-- the stored answers are valid, but for the undecided ones, which are refused;
+- the stored answers are valid, but for the undecided ones and those of `straighten`, which are refused;
+- the stored answers of `straighten` are valid where straight lists are asked for;
 - on each case of `check` the checker finds what the table tells, and has the status that it tells;
+- of answers of `straighten`, right ones and altered ones, it finds what was written by hand, whether it writes out images
+  or goes by matrices;
 - the greatest number of bytes is read, and one byte more is refused.
 """
 
 import sys
 
+import alike
+import altered_answers
 import table
-from altered_answers import TORUS
-from check_certificate import MOST_BYTES, found
+from certificate_cases import altered, is_straightened, stored_verdict
+from check_certificate import MOST_BYTES, check_straightened, found
 
 # ---- tests, each with what is got and what is right
+
+
+def found_straightened(text):
+    return found(text.encode("latin1"), check_straightened)[0]
 
 
 def stored_answers():
@@ -32,14 +41,11 @@ def stored_answers():
             yield f"answer to case {place} of the table of runs", text
 
 
-def stored_verdict(text):
-    """What a stored answer gets. The fifth line of an answer of `decide` has the verdict."""
-    return "refused no-certificate line 5" if "\nverdict undecided " in text else "valid"
-
-
 def stored_tests():
     for name, text in stored_answers():
         yield name, found(text.encode())[0], stored_verdict(text)
+        if is_straightened(text):
+            yield f"{name}, as a straight list", found_straightened(text), "valid"
 
 
 def table_tests():
@@ -48,8 +54,22 @@ def table_tests():
             yield f"case {place} of the table of runs", table.told_by(*found(case.data)), case.told
 
 
+def straightened_tests():
+    for k, answer in enumerate(altered_answers.STRAIGHT, 1):
+        yield f"right straight list {k}", found_straightened(answer), "valid"
+    for k, (answer, old, new, told) in enumerate(altered_answers.STRAIGHT_ALTERATIONS, 1):
+        yield f"altered straight list {k}", found_straightened(altered(answer, old, new)), told
+
+
+def matrix_tests():
+    """The same, where no images are written out."""
+    most, alike.MOST_WRITTEN = alike.MOST_WRITTEN, 0
+    yield from straightened_tests()
+    alike.MOST_WRITTEN = most
+
+
 def size_tests():
-    data = TORUS.encode().ljust(MOST_BYTES, b"#")
+    data = altered_answers.TORUS.encode().ljust(MOST_BYTES, b"#")
     yield "the greatest size", found(data)[0], "valid"
     yield "a greater size", found(data + b"#")[0], f"refused input-too-long {MOST_BYTES}"
 
@@ -72,7 +92,7 @@ def main(words):
         return 0 if words == ["--help"] else 2
     agreed = count_passed(table_tests())
     print(f"the checker agrees with {agreed[1]} of {agreed[0]} cases of check in the table of runs")
-    counts = [agreed, *map(count_passed, [stored_tests(), size_tests()])]
+    counts = [agreed, *map(count_passed, [stored_tests(), straightened_tests(), matrix_tests(), size_tests()])]
     total = sum(total for total, _ in counts)
     passed = sum(passed for _, passed in counts)
     print(f"{passed} passed, {total - passed} failed")
