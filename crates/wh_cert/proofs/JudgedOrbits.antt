@@ -11,6 +11,7 @@ use Rattle.wh_words.specs.Moves.{Move}
 use Rattle.wh_words.specs.Action.{act}
 use Rattle.wh_words.specs.Levels.{IsLevelMove}
 use Rattle.wh_sets.specs.TupleSets.{HaveSameTuples}
+use Rattle.wh_sets.proofs.SetLists.{contains_at}
 use Rattle.wh_data.specs.AnswerData.{plains}
 use Rattle.wh_cert.specs.Demands.{ImagesAreIn}
 use Rattle.wh_cert.specs.Orbits.{OrbitsAreIn, IsClosed, HasEarlierImage, IsPermutedIn, IsJudgedAt, AreJudgedBefore, IsJudged}
@@ -23,14 +24,11 @@ use Rattle.wh_cert.proofs.ClosedOrbits.{closed_by_orbits}
 pub leads_out : (us : List TupleData) (t : TupleData) (m : Move) (Q : Bool → Type 0) (r : Option Bool) → IsLevelMove t m → ¬ (Contains us (act t m)) → r ≡ None → MatchOption r (¬ (ImagesAreIn us t)) Q
 leads_out us t m Q r level out e = subst (λ (o : Option Bool). MatchOption o (¬ (ImagesAreIn us t)) Q) (sym e) (λ all. out (all m level))
 
-listed : (ts : List TupleData) (k : ℕ) (t : TupleData) → slice_get ts k ≡ Some t → Contains ts t
-listed ts k t e = (k, slice_get_within ts k t e, get_or_from_slice_get ts k t t e)
-
 -- All images of the tuple at a place were looked up.
 pub judged_by_images : {E : Type 0} (us : List TupleData) (place : ℕ) (t : TupleData) (r : Result Bool E) → slice_get us place ≡ Some t → IsPermutedIn us t → IfOk r (λ b. IsTrue b ↔ ImagesAreIn us t) → IfOk r (IsJudged us place)
 judged_by_images us place t (Ok true) at permuted h = λ u e.
     subst (IsJudgedAt us place) (same_Some t u (sym at ∙ e)) (record { permuted = permuted; either = inr (h.0 refl) })
-judged_by_images us place t (Ok false) at permuted h = λ closed. false≢true (h.1 (closed t (listed us place t at)))
+judged_by_images us place t (Ok false) at permuted h = λ closed. false≢true (h.1 (closed t (contains_at us place t at)))
 judged_by_images us place t (Err e) at permuted h = tt
 
 -- ---- all tuples
@@ -61,7 +59,7 @@ module _ (ts : List TupleData) (judged : AreJudgedBefore ts (length ts)) where
   told k t is h images =
       let next : IsTuple (act t h.move) = level_tuple t h.move is h.level in
       subst (ImagesAreIn ts) (permuted_back t h.move is h.level.valid h.permutes)
-      (closed_by_orbits ts (act t h.move) h.move next orbits_in (listed ts h.at (act t h.move) h.there) images (permuting_level (act t h.move) h.move next h.level.valid h.level.rank h.permutes) h.permutes)
+      (closed_by_orbits ts (act t h.move) h.move next orbits_in (contains_at ts h.at (act t h.move) h.there) images (permuting_level (act t h.move) h.move next h.level.valid h.level.rank h.permutes) h.permutes)
 
   -- By induction on a bound of the places.
   images_below : (n k : ℕ) (t : TupleData) → k < n → slice_get ts k ≡ Some t → ImagesAreIn ts t

@@ -8,9 +8,7 @@ use Rattle.std.proofs.lemmas.Bool.{cases_lt, cases_eq}
 use Rattle.std.proofs.lemmas.Cmp.{ranked}
 use Rattle.wh_words.specs.Moves.{Kind, IsKind, kind_cmp}
 use Rattle.wh_words.specs.Moves.Kind.{swap, invert, cut}
-
-pub less_to : (x y : ℕ) → x < y → nat_cmp x y ≡ Less
-less_to x y h = sym (nat_cmp_is x y Less h)
+use Rattle.wh_moves.proofs.PackedOrder.{less_is}
 
 pub less_from : (x y : ℕ) → nat_cmp x y ≡ Less → x < y
 less_from x y e = ranked x y Less (sym e)
@@ -20,8 +18,8 @@ same_to x y h = sym (nat_cmp_is x y Equal h)
 
 -- ---- cuts
 pub cut_to : (a s b u : ℕ) → (a < b) ⊎ ((a ≡ b) × (s < u)) → kind_cmp (cut a s) (cut b u) ≡ Less
-cut_to a s b u (inl h) = ap (λ (o : Ordering). ordering_then o (nat_cmp s u)) (less_to a b h)
-cut_to a s b u (inr h) = ap (λ (o : Ordering). ordering_then o (nat_cmp s u)) (same_to a b h.0) ∙ less_to s u h.1
+cut_to a s b u (inl h) = ap (λ (o : Ordering). ordering_then o (nat_cmp s u)) (less_is a b h)
+cut_to a s b u (inr h) = ap (λ (o : Ordering). ordering_then o (nat_cmp s u)) (same_to a b h.0) ∙ less_is s u h.1
 
 pub cut_from : (a s b u : ℕ) → kind_cmp (cut a s) (cut b u) ≡ Less → (a < b) ⊎ ((a ≡ b) × (s < u))
 cut_from a s b u e = elim (cases_lt a b) [
@@ -44,12 +42,12 @@ pub record Follows (n : ℕ) (b c : Kind) : Type 0 where
 
 next_number : (j k : ℕ) → nat_cmp j (k + 1) ≡ Less → (nat_cmp j k ≡ Less) ⊎ (j ≡ k)
 next_number j k e = let l : j < k + 1 = less_from j (k + 1) e in elim (cases_lt j k) [
-  | inl h ↦ inl (less_to j k h)
+  | inl h ↦ inl (less_is j k h)
   | inr h ↦ inr (omega (arith, l, h))
 ]
 
 on_number : (j k : ℕ) → nat_cmp j k ≡ Less → nat_cmp j (k + 1) ≡ Less
-on_number j k e = less_to j (k + 1) (omega (arith, less_from j k e))
+on_number j k e = less_is j (k + 1) (omega (arith, less_from j k e))
 
 swap_back : (n k : ℕ) (j : Kind) → IsKind n j → kind_cmp j (swap (k + 1)) ≡ Less → (kind_cmp j (swap k) ≡ Less) ⊎ (j ≡ swap k)
 swap_back n k (swap j) v e = elim (next_number j k e) [ inl h ↦ inl h | inr q ↦ inr (ap swap q) ]
@@ -62,10 +60,10 @@ swap_on k (invert j) e = e
 swap_on k (cut a s) e = e
 
 pub next_swap : (n k : ℕ) → Follows n (swap k) (swap (k + 1))
-next_swap n k = record { back = swap_back n k; on = swap_on k; here = less_to k (k + 1) (omega arith) }
+next_swap n k = record { back = swap_back n k; on = swap_on k; here = less_is k (k + 1) (omega arith) }
 
 swaps_back : (n k : ℕ) → n ≤ k → (j : Kind) → IsKind n j → kind_cmp j (invert 1) ≡ Less → (kind_cmp j (swap k) ≡ Less) ⊎ (j ≡ swap k)
-swaps_back n k h (swap j) v e = inl (less_to j k (omega (arith, v.1, h)))
+swaps_back n k h (swap j) v e = inl (less_is j k (omega (arith, v.1, h)))
 swaps_back n k h (invert j) v e = absurd (omega (arith, v.0, less_from j 1 e))
 swaps_back n k h (cut a s) v e = absurd (cc e)
 
@@ -89,11 +87,11 @@ invert_on k (invert j) e = on_number j k e
 invert_on k (cut a s) e = e
 
 pub next_invert : (n k : ℕ) → Follows n (invert k) (invert (k + 1))
-next_invert n k = record { back = invert_back n k; on = invert_on k; here = less_to k (k + 1) (omega arith) }
+next_invert n k = record { back = invert_back n k; on = invert_on k; here = less_is k (k + 1) (omega arith) }
 
 inverts_back : (n k : ℕ) → n < k → (j : Kind) → IsKind n j → kind_cmp j (cut 0 0) ≡ Less → (kind_cmp j (invert k) ≡ Less) ⊎ (j ≡ invert k)
 inverts_back n k h (swap j) v e = inl refl
-inverts_back n k h (invert j) v e = inl (less_to j k (omega (arith, v.1, h)))
+inverts_back n k h (invert j) v e = inl (less_is j k (omega (arith, v.1, h)))
 inverts_back n k h (cut a s) v e = absurd (elim (cut_from a s 0 0 e) [ inl l ↦ omega (arith, l) | inr l ↦ omega (arith, l.1) ])
 
 inverts_on : (k : ℕ) (j : Kind) → kind_cmp j (invert k) ≡ Less → kind_cmp j (cut 0 0) ≡ Less

@@ -17,7 +17,7 @@ use Rattle.wh_graph.proofs.SetNumbers.{mask, mask_lt, mask_has, mask_cut, holds,
 use Rattle.wh_graph.proofs.Agreement.{mask_cap}
 use Rattle.wh_graph.proofs.EdgeTables.{graph_capacity, graph_degree}
 
-omits_back : (set x : ℕ) → in_set set x ≡ false → bit_at set x ≡ 0
+pub omits_back : (set x : ℕ) → in_set set x ≡ false → bit_at set x ≡ 0
 omits_back set x h = let not_one : bit_at set x ≡ 1 → ⊥ = eqb-false (bit_at set x) 1 h in omega (arith, bit_at-lt set x, not_one)
 
 -- The set of a cut separates its multiplier from the inverse of that.

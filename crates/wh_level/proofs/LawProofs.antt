@@ -13,10 +13,10 @@ use Rattle.std.specs.List.Sorted.{IsStrictlySortedBy}
 use Rattle.std.specs.Ordering.{is_lt, is_gt, eq_by_cmp, ordering_reverse}
 use Rattle.std.specs.declared.cmp.Ordering.{Ordering}
 use Rattle.std.specs.declared.cmp.Ordering.TheVariants.{Less, Equal, Greater}
-use Rattle.wh_words.specs.Tuples.{TupleData, IsTuple, tuple_cmp}
+use Rattle.wh_words.specs.Tuples.{TupleData, tuple_cmp}
 use Rattle.wh_words.proofs.Elements.{contains_none, contains_first, contains_later, contains_cases}
 use Rattle.wh_words.proofs.SameTuples.{tuple_cmp_total, tied}
-use Rattle.wh_words.specs.Moves.{Move, move_cmp}
+use Rattle.wh_words.specs.Moves.{move_cmp}
 use Rattle.wh_words.specs.Action.{act_all}
 use Rattle.wh_words.specs.Levels.{InLevel, KeepsLength}
 use Rattle.wh_moves.specs.MoveOrders.{move_cmp_total, same_moves}

@@ -12,6 +12,7 @@ use Rattle.wh_words.specs.Tuples.{TupleData, tuple_cmp}
 use Rattle.wh_words.specs.Moves.{Move}
 use Rattle.wh_words.specs.Levels.{IsLevelMove, Reaches, InLevel, IsFirstWalk}
 use Rattle.wh_words.specs.Levels.Reaches.{here}
+use Rattle.wh_sets.proofs.SetLists.{contains_at}
 use Rattle.wh_level.specs.Trees.{LeadsBack, IsWalkedTo, AreParents, AreWithin}
 use Rattle.wh_level.specs.Trees.LeadsBack.{root as back_at_root, step as back_step}
 use Rattle.wh_level.specs.Searches.{SearchData, started, Stop, NoLater, Earlier, HasParent, IsStop, IsFollowed, AllEarlier, IsKnown, IsSearched}
@@ -153,9 +154,6 @@ same_places tuples v w t sorted h k = elim (cases_lt v w) [
         (subst (λ (x : TupleData). tuple_cmp x t ≡ Less) (get_or_from_slice_get tuples a t t p)
         (subst (λ (y : TupleData). tuple_cmp (get_or tuples a t) y ≡ Less) (get_or_from_slice_get tuples b t t q)
         (Less-from_sorted tuple_cmp tuples a b t sorted l (slice_get_within tuples b t q))))
-
-contains_at : (tuples : List TupleData) (v : ℕ) (t : TupleData) → slice_get tuples v ≡ Some t → Contains tuples t
-contains_at tuples v t h = (v, slice_get_within tuples v t h, get_or_from_slice_get tuples v t t h)
 
 -- No tuple has two places.
 abbrev pub AreAlone : List TupleData → Type 0

@@ -14,7 +14,7 @@ use Rattle.wh_moves.proofs.InverseMoves.{inverse_is_kind, inverse_is_move}
 use Rattle.wh_words.specs.Moves.Kind.{swap, invert, cut}
 use Rattle.wh_moves.specs.Packing.{kind_of_code, unpacked}
 
-less_is : (a b : ℕ) → a < b → nat_cmp a b ≡ Less
+pub less_is : (a b : ℕ) → a < b → nat_cmp a b ≡ Less
 less_is a b h = sym (nat_cmp_is a b Less h)
 
 more_is : (a b : ℕ) → b < a → nat_cmp a b ≡ Greater

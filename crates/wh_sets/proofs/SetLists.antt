@@ -7,7 +7,7 @@ use Rattle.std.proofs.lemmas.List.{length-map, get_or-map, map-append}
 use Rattle.std.proofs.lemmas.List.Quantifiers.{position-Some}
 use Rattle.std.proofs.lemmas.List.Sums.{fails_before_first}
 use Rattle.std.proofs.lemmas.Map.Views.{list_any-from_Contains}
-use Rattle.std.proofs.lemmas.Option.{slice_get-get_or}
+use Rattle.std.proofs.lemmas.Option.{slice_get-get_or, slice_get_within, get_or_from_slice_get}
 use Rattle.std.specs.List.{IsDistinct, AllByRecursion, list_any, position_or_len}
 use Rattle.std.specs.Option.{MatchOption}
 use Rattle.std.specs.Ordering.{is_eq, eq_by_cmp}
@@ -16,6 +16,10 @@ use Rattle.indexmap.proofs.CallerLemmas.{Contains-list_any}
 use Rattle.wh_words.specs.Tuples.{TupleData, Tuple, own_room, tuple_cmp, tuple_order}
 use Rattle.wh_words.proofs.SameTuples.{tuple_cmp_total, tied, tied_with_itself}
 use Rattle.wh_sets.specs.TupleSets.{IsAdded}
+
+-- What a list has at a place is in it.
+pub contains_at : (ts : List TupleData) (k : ℕ) (t : TupleData) → slice_get ts k ≡ Some t → Contains ts t
+contains_at ts k t e = (k, slice_get_within ts k t e, get_or_from_slice_get ts k t t e)
 
 -- The data of tuples.
 abbrev pub plains : List Tuple → List TupleData

@@ -12,6 +12,7 @@ use Rattle.wh_words.specs.Moves.{Move, IsCut, cut_move}
 use Rattle.wh_words.specs.Moves.Kind.{cut}
 use Rattle.wh_words.specs.Action.{act}
 use Rattle.wh_words.proofs.LetterMaps.{inverse_below}
+use Rattle.wh_graph.proofs.NetworkCuts.{omits_back}
 use Rattle.wh_graph.proofs.SetNumbers.{mask, mask_lt, mask_has, holds, omits, holds_back}
 use Rattle.wh_peak.specs.Equivalence.{IsMoveOfRank, AreMovesOfRank}
 use Rattle.wh_peak.specs.Straightness.{IsLowered, IsPeak}
@@ -30,7 +31,7 @@ use Rattle.wh_peak.proofs.SameComposites.{agree-refl}
 use Rattle.wh_peak.proofs.ConjugatingWords.{IsConjugate}
 use Rattle.wh_peak.proofs.AlikeMoves.{conjugate-same, conjugate-sym, conjugate-alike, alike_act_alike}
 use Rattle.wh_straighten.proofs.LoweredMoves.{lowered_by_way, lowered_from, lowered_to, complement-conjugate}
-use Rattle.wh_straighten.proofs.LoweredRows.{and_has, mask-is, none_of, cut_law}
+use Rattle.wh_straighten.proofs.LoweredRows.{and_has, mask-is, cut_law}
 
 -- ---- the side of a cut
 -- (B, b) is (A, a) where this cut omits c, and else the cut of the complement at the inverse of a.
@@ -161,7 +162,7 @@ side_made r n c a A b B e u kept turned same other w = record {
       of_rank = inverse_below n a u.of_rank;
       within = w;
       holds = holds_back B (inverse_letter a) (h (inverse_letter a) (inverse_below n a u.of_rank) ∙ ap not (omits A (inverse_letter a) u.omits));
-      omits = ap (bit_at B) (inverse-inverse a) ∙ none_of B a (h a u.of_rank ∙ ap not (holds A a u.holds));
+      omits = ap (bit_at B) (inverse-inverse a) ∙ omits_back B a (h a u.of_rank ∙ ap not (holds A a u.holds));
     }
 
 -- ---- which quadrant serves
@@ -179,7 +180,7 @@ quadrant_cut n A B c Q l q h = record {
   of_rank = l;
   within = q.within;
   holds = holds_back Q c (q.letters c l ∙ ap₂ (λ y z. y && z) (agree-self (in_set A c)) (agree-self (in_set B c)));
-  omits = none_of Q (inverse_letter c) (q.letters (inverse_letter c) (inverse_below n c l) ∙ out h);
+  omits = omits_back Q (inverse_letter c) (q.letters (inverse_letter c) (inverse_below n c l) ∙ out h);
 }
   where
     out : (in_set A (inverse_letter c) ≡ not (in_set A c)) ⊎ (in_set B (inverse_letter c) ≡ not (in_set B c)) →

@@ -20,6 +20,7 @@ use Rattle.wh_words.proofs.LetterMaps.{inverse_below, swap_stay, invert_there}
 use Rattle.wh_composites.specs.SignedPerms.{IsTurnOfRank, TakeLetters, carry}
 use Rattle.wh_moves.proofs.InverseMoves.{inverse_is_kind}
 use Rattle.wh_graph.specs.Laws.{is_of}
+use Rattle.wh_graph.proofs.NetworkCuts.{omits_back}
 use Rattle.wh_graph.proofs.SetNumbers.{mask, mask_lt, mask_bit, holds, omits, holds_back}
 use Rattle.wh_peak.specs.Straightness.{IsLowered, IsPeak}
 use Rattle.wh_peak.specs.Relations.{HasLetters, AreDisjoint}
@@ -52,9 +53,6 @@ bit_of set y false e l = elim (cases_eq (bit_at set y) 1) [
   | inl h ↦ absurd (true≢false (sym (holds set y h) ∙ e))
   | inr n ↦ omega (arith, n, l)
 ]
-
-pub none_of : (set y : ℕ) → in_set set y ≡ false → bit_at set y ≡ 0
-none_of set y e = bit_of set y false e (bit_at-lt set y)
 
 -- A number below that has the letters of a test is the number of the test.
 pub mask-is : (k set : ℕ) (test : ℕ → Bool) → set < 2 ^ k → ((y : ℕ) → y < k → in_set set y ≡ test y) → set ≡ mask k test
@@ -157,16 +155,13 @@ map-above n (cut a s ∷ ks) t x l = absurd t.0
 not_of : (a x : ℕ) → x / 2 ≢ a / 2 → is_of a x ≡ false
 not_of a x n = sym (same_generator a x) ∙ ne_eqb (x / 2) (a / 2) n
 
-head_is : (x y : ℕ) (u v : List ℕ) → x ∷ u ≡ y ∷ v → x ≡ y
-head_is x y u v e = ap (λ (w : List ℕ). get_or w 0 0) e
-
 -- Turns that carry the letters of the rank carry all letters.
 abbrev carrying_word : (n a b : ℕ) → a < 2 * n → b < 2 * n → is_of a b ≡ false → (ms : List Move) → All (IsTurnOfRank n) ms → TakeLetters n ms (carry a b) → Word n (carry a b)
 carrying_word n a b la lb ab ms h t = record {
   list = kinds ms;
   turns = kinds-turns n ms h;
   is = λ x. elim (cases_lt x (2 * n)) [
-    | inl l ↦ head_is (letters_map (kinds ms) x) (carry a b x) [] []
+    | inl l ↦ ap (λ (w : List ℕ). get_or w 0 0)
         (sym (turns_image n (kinds ms) (kinds-turns n ms h) (x ∷ [])) ∙ (sym (substituted ms (x ∷ [])) ∙ t x l))
     | inr g ↦ map-above n (kinds ms) (kinds-turns n ms h) x (omega (arith, g))
         ∙ sym (carry-o a b ab x (not_of a x (λ e. omega (arith, e, g, la))) (not_of b x (λ e. omega (arith, e, g, lb))))
@@ -197,7 +192,7 @@ exchanged_is_cut n a b A B x e u v apart f = subst (λ (z : ℕ). IsCut n z A) (
   of_rank = inverse_below n b v.of_rank;
   within = u.within;
   holds = holds_back A (inverse_letter b) f;
-  omits = ap (bit_at A) (inverse-inverse b) ∙ none_of A b (sym (and-on (in_set A b)) ∙ (ap (λ z. in_set A b && z) (sym (holds B b v.holds)) ∙ apart b));
+  omits = ap (bit_at A) (inverse-inverse b) ∙ omits_back A b (sym (and-on (in_set A b)) ∙ (ap (λ z. in_set A b && z) (sym (holds B b v.holds)) ∙ apart b));
 })
 
 -- ---- a way between disjoint cuts
@@ -333,7 +328,7 @@ module _ (t : TupleData) (is : IsTuple t) (low : t.rank ≤ 26) (a b A B : ℕ) 
     of_rank = l;
     within = w;
     holds = holds_back X x (h x l ∙ k.has);
-    omits = none_of X (inverse_letter x) (h (inverse_letter x) (inverse_below t.rank x l) ∙ k.lacks);
+    omits = omits_back X (inverse_letter x) (h (inverse_letter x) (inverse_below t.rank x l) ∙ k.lacks);
   }
 
   pub united_cut : (C : ℕ) → b ≡ inverse_letter a → C < 2 ^ (2 * t.rank) → HasLetters t.rank C (union_without (in_set A) (in_set B) a) → IsCut t.rank (inverse_letter a) C

@@ -25,7 +25,8 @@ use Rattle.wh_peak.proofs.MapsPastCuts.{LoweredSteps, lower_left, lower_right}
 use Rattle.wh_peak.proofs.ExpandedSteps.{turn_length}
 use Rattle.wh_peak.proofs.MovesOfRank.{move_of, move_of_rank, cyclic_words}
 use Rattle.wh_peak.proofs.StraightLists.{lowered_by_steps}
-use Rattle.wh_straighten.proofs.LoweredRows.{test_of, none_of, cut_law, set_is, back_is}
+use Rattle.wh_graph.proofs.NetworkCuts.{omits_back}
+use Rattle.wh_straighten.proofs.LoweredRows.{test_of, cut_law, set_is, back_is}
 
 -- A swap or an inversion keeps the length.
 pub turn_keeps : (t : TupleData) → IsTuple t → (k : Kind) → IsTurn t.rank k → tuple_length (act t (move_of t.rank k)) ≡ tuple_length t
@@ -96,7 +97,7 @@ moved_is_cut n k a A x S h u e l w =
       of_rank = low;
       within = w;
       holds = holds_back S (letter_map k a) (l (letter_map k a) low ∙ (ap (in_set A) (map-twice n k h a) ∙ holds A a u.holds));
-      omits = none_of S (inverse_letter (letter_map k a)) (l (inverse_letter (letter_map k a)) (inverse_below n (letter_map k a) low)
+      omits = omits_back S (inverse_letter (letter_map k a)) (l (inverse_letter (letter_map k a)) (inverse_below n (letter_map k a) low)
           ∙ (ap (in_set A) (map-turns n k h (letter_map k a) ∙ ap inverse_letter (map-twice n k h a)) ∙ omits A (inverse_letter a) u.omits));
     })
 

@@ -1,4 +1,4 @@
-use Rattle.std.proofs.Common.{◌≡◌, ℕ, ◌+◌, subst, arith}
+use Rattle.std.proofs.Common.{ℕ, ◌+◌, subst, arith}
 use Rattle.wh_words.specs.Moves.Kind.{cut}
 use Rattle.wh_expand.specs.FirstLevelMoves.{AreLevelMovesBefore}
 use Rattle.wh_expand.proofs.FirstMoves.{skip_lacking}

@@ -1,4 +1,4 @@
-use Rattle.std.proofs.Common.{◌≡◌, ◌<◌, ◌+◌, ◌-◌, ◌*◌, ◌^◌, ◌∙◌, refl, ap, arith, get_or, length, replicate, ℕ}
+use Rattle.std.proofs.Common.{◌≡◌, ◌<◌, ◌-◌, ◌*◌, ◌^◌, ◌∙◌, ap, arith, get_or, length, replicate, ℕ}
 use Rattle.std.proofs.lemmas.List.{get_or-replicate, length-replicate}
 use Rattle.wh_graph.specs.CapacityTables.{set_capacity}
 use Rattle.wh_graph.proofs.SetTables.{table_of_none, power_up, capacity_of_none}

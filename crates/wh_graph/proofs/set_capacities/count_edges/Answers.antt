@@ -1,4 +1,4 @@
-use Rattle.std.proofs.Common.{◌≡◌, ◌+◌, ◌∙◌, refl, arith}
+use Rattle.std.proofs.Common.{◌+◌, refl, arith}
 use Rattle.std.proofs.lemmas.List.{length-set}
 use Rattle.wh_graph.specs.CapacityTables.{edges_into}
 use Rattle.wh_graph.proofs.SetTables.{table_first, power_up, edges_into_none}

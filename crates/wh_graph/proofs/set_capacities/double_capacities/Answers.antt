@@ -1,6 +1,6 @@
-use Rattle.std.proofs.Common.{◌≡◌, ◌+◌, ◌-◌, ◌*◌, ◌^◌, ◌<◌, get_or, set, sym, ap, ◌∙◌, subst, arith, ℕ, List}
+use Rattle.std.proofs.Common.{◌≡◌, ◌+◌, ◌-◌, ◌*◌, ◌^◌, ◌<◌, get_or, set, sym, ap, ◌∙◌, subst, arith, ℕ}
 use Rattle.std.proofs.lemmas.List.{length-set}
-use Rattle.wh_graph.specs.CapacityTables.{HasTable, edges_into, set_capacity}
+use Rattle.wh_graph.specs.CapacityTables.{HasTable, set_capacity}
 use Rattle.wh_graph.proofs.SetTables.{table_to, table_more, power_more, capacity_more, capacity_few, edges_few, degree_few}
 use Rattle.wh_graph.proofs.set_capacities.double_capacities.Goals as goal
 

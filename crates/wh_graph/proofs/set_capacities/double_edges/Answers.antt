@@ -1,4 +1,4 @@
-use Rattle.std.proofs.Common.{◌≡◌, ◌+◌, ◌^◌, ◌<◌, get_or, set, sym, ap, ◌∙◌, subst, arith, ℕ, List}
+use Rattle.std.proofs.Common.{◌≡◌, ◌+◌, ◌^◌, ◌<◌, get_or, set, sym, ap, ◌∙◌, subst, arith, ℕ}
 use Rattle.std.proofs.lemmas.List.{length-set}
 use Rattle.wh_graph.specs.CapacityTables.{HasTable, edges_into}
 use Rattle.wh_graph.proofs.SetTables.{table_to, table_more, power_more, edges_more, edges_few}

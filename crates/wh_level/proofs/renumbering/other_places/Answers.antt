@@ -1,5 +1,5 @@
-use Rattle.std.proofs.Common.{◌≡◌, ◌+◌, ◌++◌, ◌∷◌, [], ℕ, List, length, map, take, get_or, sym, ap, ◌∙◌, subst, arith}
-use Rattle.std.proofs.lemmas.List.{take_more, map_push, length-map, get_or-map}
+use Rattle.std.proofs.Common.{◌≡◌, ◌+◌, ◌++◌, ◌∷◌, [], ℕ, List, take, sym, ap, ◌∙◌, subst, arith}
+use Rattle.std.proofs.lemmas.List.{take_more, map_push}
 use Rattle.wh_words.specs.Tuples.{TupleData, Tuple}
 use Rattle.wh_sets.proofs.SetLists.{plains}
 use Rattle.wh_level.specs.PlacedTuples.{ArePlaces}

@@ -1,5 +1,4 @@
-use Rattle.std.proofs.Common.{◌≡◌, ℕ, List, length, sym, ap, ◌∙◌, subst}
-use Rattle.wh_words.specs.Tuples.{TupleData, Tuple}
+use Rattle.std.proofs.Common.{ℕ, List, length, sym, ap, ◌∙◌, subst}
 use Rattle.wh_sets.proofs.SetLists.{plains}
 use Rattle.wh_level.specs.Trees.{Parents, AreMoved, AreOtherPlaces, AreWithin}
 use Rattle.wh_level.specs.GrowingLevels.{GrowingData, HasGoneOver}

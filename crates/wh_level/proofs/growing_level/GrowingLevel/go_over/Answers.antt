@@ -1,5 +1,5 @@
-use Rattle.std.proofs.Common.{◌≡◌, ◌+◌, length, ap, sym, subst, arith}
-use Rattle.wh_words.specs.Tuples.{TupleData, Tuple}
+use Rattle.std.proofs.Common.{length, ap, sym, subst, arith}
+use Rattle.wh_words.specs.Tuples.{Tuple}
 use Rattle.wh_words.specs.Action.{act}
 use Rattle.wh_expand.specs.Rows.{row_tuple}
 use Rattle.wh_level.specs.GrowingLevels.{IsMet}

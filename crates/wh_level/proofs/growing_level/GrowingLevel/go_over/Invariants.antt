@@ -1,4 +1,3 @@
-use Rattle.std.proofs.Common.{◌≡◌}
 use Rattle.wh_words.specs.Tuples.{TupleData}
 use Rattle.wh_expand.specs.Rows.{row_tuple}
 use Rattle.wh_level.specs.PlacedTuples.{KeepsRooms}

@@ -1,4 +1,4 @@
-use Rattle.std.proofs.Common.{◌≡◌, None, List, [], ◌∷◌, sym, ap, ◌∙◌, subst}
+use Rattle.std.proofs.Common.{List, [], ◌∷◌, sym, subst}
 use Rattle.wh_words.specs.Tuples.{TupleData}
 use Rattle.wh_level.specs.Trees.{Parents}
 use Rattle.wh_level.specs.GrowingLevels.{HasGoneOver}
