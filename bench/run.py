@@ -35,35 +35,36 @@ def told(answer):
     """What the answer tells in short: the number of moves of its first line of moves, with that of the given ones where a
     list was straightened, or its verdict."""
     given = ""
-    for line in answer.splitlines():
+    answer.seek(0)
+    for line in answer:
         if line.startswith("given"):
             given = f"{len(line.split()) - 1} -> "
         if line.startswith(("trace", "moves")):
             return f"{given}{len(line.split()) - 1} moves"
-        if line.startswith("verdict ") and line != "verdict yes":
-            return line.removeprefix("verdict ")
-    return "refused"
+        if line.startswith(("verdict ", "refused ")) and line != "verdict yes\n":
+            return line.removeprefix("verdict ").strip()
+    return "nothing"
 
 
-def run(words, data):
-    """Seconds, peak memory in MB, and the text that is written."""
+def run(words, source, answer):
+    """Seconds and peak memory in MB of a run that reads a file and writes another. Texts stay in files, since a child counts
+    as large as this script until it starts."""
+    source.seek(0)
+    answer.seek(0)
+    answer.truncate()
     begun = time.perf_counter()
-    with tempfile.TemporaryFile() as source:
-        source.write(data)
-        source.seek(0)
-        child = subprocess.Popen([PROGRAM, *words], stdin=source, stdout=subprocess.PIPE, text=True)
-        text = child.stdout.read()
-        _, _, usage = os.wait4(child.pid, 0)
-    return time.perf_counter() - begun, usage.ru_maxrss / 1024, text
+    child = subprocess.Popen([PROGRAM, *words], stdin=source, stdout=answer)
+    _, _, usage = os.wait4(child.pid, 0)
+    return time.perf_counter() - begun, usage.ru_maxrss / 1024
 
 
-def best(words, data):
+def best(words, source, answer):
     """The fastest of three runs."""
-    return min(run(words, data) for _ in range(3))
+    return min(run(words, source, answer) for _ in range(3))
 
 
 def peak(megabytes):
-    """Peak memory. A child counts as large as this script until it starts, so that less can't be told."""
+    """Peak memory. Less than that of this script can't be told."""
     least = math.ceil(resource.getrusage(resource.RUSAGE_SELF).ru_maxrss / 1024)
     return f"{megabytes:.1f}" if megabytes > least else f"under {least}"
 
@@ -72,9 +73,16 @@ def print_table():
     print("| Input | Time (s) | Peak memory (MB) | Answer | Time to check (s) | Verdict |")
     print("|---|---|---|---|---|---|")
     for path in sorted((ROOT / "inputs").glob("*.txt")):
-        seconds, megabytes, answer = best(words_for(path), path.read_bytes())
-        checking, _, verdict = best(["check"], answer.encode())
-        print(f"| {path.stem} | {seconds:.3f} | {peak(megabytes)} | {told(answer)} | {checking:.3f} | {verdict.strip()} |")
+        print(row(path))
+
+
+def row(path):
+    """The row of an input: its run, and the check of its answer."""
+    with path.open() as source, tempfile.TemporaryFile("w+") as answer, tempfile.TemporaryFile("w+") as verdict:
+        seconds, megabytes = best(words_for(path), source, answer)
+        checking, _ = best(["check"], answer, verdict)
+        verdict.seek(0)
+        return f"| {path.stem} | {seconds:.3f} | {peak(megabytes)} | {told(answer)} | {checking:.3f} | {verdict.read().strip()} |"
 
 
 def main(words):
