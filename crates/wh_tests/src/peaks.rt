@@ -1,7 +1,7 @@
 //! Ways round peaks.
 ghost use Rattle.std.specs.Prelude.{◌≡◌};
 
-use crate::support::{cut, has_words, tuple};
+use crate::support::{cut, has_words, leads_by_letters, tuple};
 use std::alloc::Global;
 use std::test::Fail;
 use wh_moves::{Move, act, acted_length};
@@ -21,25 +21,13 @@ fn way_round(alloc: Global, top: &Tuple, left: &Move, right: &Move) -> Result<Ve
     }
 }
 
-/// Whether moves lead from one letter to another by tuples of one letter.
-fn leads_by_letters(alloc: Global, from: Tuple, way: &[Move], to: &str) -> Result<bool, Fail> {
-    let mut tuple = from;
-    for m in way {
-        if m.rank() != tuple.rank() || tuple.length() != 1 {
-            return Ok(false);
-        }
-        tuple = act(alloc, &tuple, m)?;
-    }
-    Ok(has_words(&tuple, &[to]))
-}
-
 /// Whether the way round ab, between two cuts that each take one of its letters away, leads from b to a.
 fn goes_round(alloc: Global, top: &Tuple) -> Result<bool, Fail> {
     let left = cut(top.rank(), b'a', 0b1001)?;
     let right = cut(top.rank(), b'b', 0b0110)?;
     let way = way_round(alloc, top, &left, &right)?;
     let start = act(alloc, top, &left)?;
-    Ok(has_words(&start, &["b"]) && leads_by_letters(alloc, start, &way, "a")?)
+    Ok(has_words(&start, &["b"]) && leads_by_letters(alloc, &start, &way, "a")?)
 }
 
 /// The same for the tuple of a text.

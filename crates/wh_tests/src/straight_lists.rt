@@ -2,24 +2,12 @@
 ghost use Rattle.std.specs.Prelude.{◌≡◌, IfOk};
 ghost use Rattle.std.specs.List.{All};
 
-use crate::support::{cut, has_words, rank, tuple};
+use crate::support::{cut, leads_by_letters, rank, tuple};
 use std::alloc::Global;
 use std::test::Fail;
-use wh_moves::{Move, act};
+use wh_moves::Move;
 use wh_straighten::{StraightenError, straighten};
 use wh_words::Tuple;
-
-/// Whether moves lead from a tuple to the letter a by tuples of one letter.
-fn leads_to_a(alloc: Global, from: &Tuple, way: &[Move]) -> Result<bool, Fail> {
-    let mut tuple = from.copy(alloc)?;
-    for m in way {
-        if m.rank() != tuple.rank() || tuple.length() != 1 {
-            return Ok(false);
-        }
-        tuple = act(alloc, &tuple, m)?;
-    }
-    Ok(has_words(&tuple, &["a"]))
-}
 
 /// Moves that take a to ab, abb and a word of five letters, and back to a by other words.
 fn over_five_letters() -> Result<[Move; 6], Fail>
@@ -38,7 +26,7 @@ fn keeps_to_one_letter(alloc: Global, from: &Tuple) -> Result<bool, Fail> {
         return Ok(false);
     }
     let straight = straighten(alloc, from, &over_five_letters()?)?;
-    leads_to_a(alloc, from, &straight)
+    leads_by_letters(alloc, from, &straight, "a")
 }
 
 /// The same from the letter a.

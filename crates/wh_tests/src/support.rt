@@ -8,7 +8,7 @@ ghost use Rattle.wh_words.specs.Limits.{most_rank};
 use std::alloc::Global;
 use std::test::Fail;
 use wh_io::{MemSink, MemSource};
-use wh_moves::Move;
+use wh_moves::{Move, act};
 use wh_text::{Command, Problem, read_problem};
 use wh_words::{Letter, LetterSet, Rank, Tuple, Word};
 
@@ -115,6 +115,36 @@ fn only_tuple(problem: Problem) -> Option<Tuple> {
 pub(crate) fn tuple(alloc: Global, text: &str) -> Result<Tuple, Fail> {
     let problem = read_problem(alloc, Command::Reduce, text.as_bytes())?;
     Ok(only_tuple(problem).ok_or("two tuples")?)
+}
+
+/// Takes a tuple on by a move.
+fn go_on(alloc: Global, tuple: &mut Tuple, m: &Move) -> Result<(), Fail>
+    requires { m.now.rank ≡ tuple.old.plain.rank }
+{
+    *tuple = act(alloc, tuple, m)?;
+    Ok(())
+}
+
+/// Whether a tuple is one of a single letter before each move of a way, over which it is taken.
+fn goes_by_letters(alloc: Global, tuple: &mut Tuple, way: &[Move]) -> Result<bool, Fail> {
+    for m in way {
+        if m.rank() != tuple.rank() || tuple.length() != 1 {
+            return Ok(false);
+        }
+        go_on(alloc, tuple, m)?;
+    }
+    Ok(true)
+}
+
+/// Whether moves lead from a tuple to a letter by tuples of a single letter.
+pub(crate) fn leads_by_letters(
+    alloc: Global,
+    from: &Tuple,
+    way: &[Move],
+    to: &str,
+) -> Result<bool, Fail> {
+    let mut tuple = from.copy(alloc)?;
+    Ok(goes_by_letters(alloc, &mut tuple, way)? && has_words(&tuple, &[to]))
 }
 
 /// A rank.
