@@ -21,13 +21,27 @@ fn way_round(alloc: Global, top: &Tuple, left: &Move, right: &Move) -> Result<Ve
     }
 }
 
+/// Whether the way round a top leads by single letters from its left end, which is b, to a.
+fn leads_round(
+    alloc: Global,
+    top: &Tuple,
+    left: &Move,
+    right: &Move,
+    start: &Tuple,
+) -> Result<bool, Fail>
+    requires left_rank { left.now.rank ≡ top.now.plain.rank }
+    requires right_rank { right.now.rank ≡ top.now.plain.rank }
+{
+    let way = way_round(alloc, top, left, right)?;
+    Ok(has_words(start, &["b"]) && leads_by_letters(alloc, start, &way, "a")?)
+}
+
 /// Whether the way round ab, between two cuts that each take one of its letters away, leads from b to a.
 fn goes_round(alloc: Global, top: &Tuple) -> Result<bool, Fail> {
     let left = cut(top.rank(), b'a', 0b1001)?;
     let right = cut(top.rank(), b'b', 0b0110)?;
-    let way = way_round(alloc, top, &left, &right)?;
     let start = act(alloc, top, &left)?;
-    Ok(has_words(&start, &["b"]) && leads_by_letters(alloc, &start, &way, "a")?)
+    leads_round(alloc, top, &left, &right, &start)
 }
 
 /// The same for the tuple of a text.
