@@ -25,3 +25,16 @@ most_level_length = 256
 -- How many tuples a level may have.
 abbrev pub most_level_tuples : ℕ
 most_level_tuples = 131072
+
+-- ---- stabilisers
+-- The greatest rank in which stabilisers are made.
+abbrev pub most_stabiliser_rank : ℕ
+most_stabiliser_rank = 4
+
+-- How many edges the level of a stabiliser may have: level moves of all its tuples together.
+abbrev pub most_level_edges : ℕ
+most_level_edges = 65536
+
+-- How many relators the level of a stabiliser may have.
+abbrev pub most_relators : ℕ
+most_relators = 393216

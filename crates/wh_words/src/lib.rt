@@ -21,7 +21,8 @@ pub use cyclic_word::CyclicWord;
 pub use letter::Letter;
 pub use letter_set::LetterSet;
 pub use limits::{
-    MOST_LETTERS, MOST_LEVEL_LENGTH, MOST_LEVEL_RANK, MOST_LEVEL_TUPLES, MOST_RANK, MOST_WORDS,
+    MOST_LETTERS, MOST_LEVEL_EDGES, MOST_LEVEL_LENGTH, MOST_LEVEL_RANK, MOST_LEVEL_TUPLES,
+    MOST_RANK, MOST_RELATORS, MOST_STABILISER_RANK, MOST_WORDS,
 };
 pub use list::List;
 pub use pass::cut_image_length;

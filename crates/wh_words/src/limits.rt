@@ -17,3 +17,12 @@ pub const MOST_LEVEL_LENGTH: u32 = 256;
 
 /// How many tuples a level may have.
 pub const MOST_LEVEL_TUPLES: u32 = 131072;
+
+/// The greatest rank in which stabilisers are made.
+pub const MOST_STABILISER_RANK: u8 = 4;
+
+/// How many edges the level of a stabiliser may have: level moves of all its tuples together.
+pub const MOST_LEVEL_EDGES: usize = 65536;
+
+/// How many relators the level of a stabiliser may have.
+pub const MOST_RELATORS: usize = 393_216;
