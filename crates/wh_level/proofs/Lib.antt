@@ -12,3 +12,4 @@ pub mod FirstParents
 pub mod Absent
 pub mod Growth
 pub mod OtherPlaces
+pub mod TreePaths

@@ -1,5 +1,5 @@
 -- The tree of first walks of a level: each tuple but the root has a parent and a move that leads from it.
-use Rattle.std.specs.Prelude.{◌≡◌, ◌≢◌, ℕ, ◌<◌, ◌≤◌, List, [], ◌∷◌, length, reverse, get_or, Option, Some, None, slice_get, ◌↔◌}
+use Rattle.std.specs.Prelude.{◌≡◌, ◌≢◌, ℕ, zero, suc, ◌<◌, ◌≤◌, List, [], ◌∷◌, ◌++◌, length, reverse, get_or, Option, Some, None, slice_get, ◌↔◌}
 use Rattle.wh_words.specs.Limits.{most_level_rank}
 use Rattle.wh_words.specs.Tuples.{TupleData}
 use Rattle.wh_words.specs.Moves.{Move}
@@ -38,6 +38,26 @@ pub record IsClosedLevel (l : LevelData) : Type 0 where
   pub rank : l.root.rank ≤ most_level_rank
   pub level : IsLevel l.root l.tuples
   pub parents : AreParents l.root l.tuples l.parents
+
+-- ---- paths
+-- The parents lead back from each place, and on the way meet no place twice.
+abbrev pub IsRooted : Parents → Type 0
+IsRooted parents = (v : ℕ) → v < length parents → (back : List Move) × LeadsBack parents v back × (length back < length parents)
+
+-- The path to a place, where paths to others are known: the path to its parent and the move from there, and none without a parent.
+abbrev pub onward : (ℕ → List Move) → Option (Option (ℕ × Move)) → List Move
+onward path None = []
+onward path (Some None) = []
+onward path (Some (Some p)) = path p.0 ++ p.1 ∷ []
+
+-- The path to a place along the parents, of at most so many moves.
+abbrev pub path_within : Parents → ℕ → ℕ → List Move
+path_within parents zero v = []
+path_within parents (suc n) v = onward (path_within parents n) (slice_get parents v)
+
+-- The moves that lead to a place along the parents, from where these begin.
+abbrev pub path_to : Parents → ℕ → List Move
+path_to parents v = path_within parents (length parents) v
 
 -- ---- other places
 -- A parent whose place has become another one.

@@ -1,0 +1,3 @@
+pub mod SpanningTrees
+pub mod Presentations
+pub mod Laws

@@ -1,0 +1,4 @@
+//! Generators and relators of the automorphisms that fix a tuple.
+#![tactic(auto)]
+
+pub mod laws;
