@@ -3,6 +3,7 @@
 
     check_certificate.py < answer
     check_certificate.py --straightened < answer      checks an answer of `whitehead straighten`; see below
+    check_certificate.py --stabiliser < answer        checks generators and relators of a stabiliser; see below
 
 It reads the answer on standard input and writes the very line that `whitehead check` writes, with its exit status:
 
@@ -75,6 +76,46 @@ In the line `end`:
 So the moves of a valid answer do what the given list does, and no tuple on their way is longer than both the first and the
 last; where no cut shortens either of these, all have one length.
 
+With --stabiliser answers of the command `stabiliser` are checked, which presents the automorphisms that fix a tuple (McCool
+1975). Between the line of the rank, which is at most 4, and `done` such an answer has the lines
+
+    tuple WORDS
+    trace MOVES, end WORDS and the lines `flow`, as above
+    level N, and N lines at WORDS, as above; these are the vertices 1 to N
+    tree V P MOVE           one line for each vertex but that of the end: it is reached from its parent P by MOVE
+    generators N            at most 65,536
+    generator V MOVE        N lines: the generators 1 to N, by the edges from V by MOVE
+    relators N              at most 393,216
+    relator V MOVES = NUMBERS       N lines: a way round from V, and the numbers of the generators on it
+
+or, in the place of all behind the tuple, an undecided verdict, which is refused by `no-certificate`. The lines up to those
+`at` have the rules above, without `absent`. The edges of the level are the level moves of its vertices, which are the swaps,
+inversions and cuts that keep the length of a vertex, but for cuts whose set is the multiplier alone.
+
+In a `tree` line:
+
+    tree        V isn't the next vertex but that of the end, P is none, MOVE is no level move that takes P to V, or the
+                parents of V don't lead to the end.
+
+In the line `generators`:
+
+    generators  N isn't the number of edges that aren't in the tree.
+
+In a `generator` line:
+
+    generator   It isn't the next edge that isn't in the tree.
+
+In a `relator` line:
+
+    step        V is no vertex, or a move on the way is no level move.
+    loop        The moves don't lead back to V.
+    wide        After some move on the way the images of the generators have more than 65,536 letters.
+    identity    The moves aren't the identity.
+    numbers     The numbers aren't those of the generators on the way, one after the other.
+
+So each generator is an automorphism that fixes the tuple: the trace, the tree's path to V, MOVE, the path to the end of MOVE
+back, and the trace back. Together they generate all of these, and the relators hold.
+
 Letters are numbers here: generator g (from 0) is 2 g and its inverse 2 g + 1, so that x ^ 1 is the inverse of x.
 """
 
@@ -88,7 +129,11 @@ from alike import are_alike
 MOST_BYTES = 67108864
 GREATEST_RANK = 26
 GREATEST_LEVEL_RANK = 6
+GREATEST_STABILISER_RANK = 4
 MOST_TUPLES = 131072
+MOST_EDGES = 65536
+MOST_RELATORS = 393216
+MOST_IMAGE_LETTERS = 65536
 MOST_GIVEN = 1024
 MOST_LETTERS = 4096
 MOST_WORDS = 64
@@ -137,7 +182,7 @@ class NoCertificate(Refused):
 
 
 class LevelRank(Refused):
-    """An answer of `decide` has this rank, which is too great."""
+    """An answer has this rank, which is too great for its command."""
 
     def __init__(self, rank):
         super().__init__(f"level-rank {rank}")
@@ -215,15 +260,14 @@ def images_of(rank, move):
 
 
 def every_move(rank):
-    """All swaps, inversions and cuts of a rank."""
+    """All swaps, inversions and cuts of a rank, in their order: cuts by their multiplier, and then by their greatest letters."""
     yield from (("swap", k) for k in range(1, rank))
     yield from (("invert", k) for k in range(1, rank + 1))
     letters = range(2 * rank)
     for multiplier in letters:
         others = [x for x in letters if x // 2 != multiplier // 2]
-        for size in range(len(others) + 1):
-            for chosen in itertools.combinations(others, size):
-                yield "cut", multiplier, frozenset((multiplier, *chosen))
+        sets = [(multiplier, *chosen) for size in range(len(others) + 1) for chosen in itertools.combinations(others, size)]
+        yield from (("cut", multiplier, frozenset(each)) for each in sorted(sets, key=lambda each: sorted(each, reverse=True)))
 
 
 @functools.cache
@@ -454,21 +498,20 @@ def read_level(reader):
     return line, [reader.tuple("at") for _ in range(count)]
 
 
-def check_level(rank, first_side, second_side, level):
-    _, (_, first_end), _ = first_side
-    _, (_, second_end), _ = second_side
+def check_level(rank, root, absent, level):
+    """The level of a root, without a tuple that has to be absent, if there is one."""
     level_line, ats = level
     known = {hashed(words) for _, words in ats}
-    if hashed(first_end) not in known:
+    if hashed(root) not in known:
         raise Broken(level_line, "root")
     moves = every_images(rank)
     last = None
     for line, words in ats:
         if last is not None and words <= last:
             raise Broken(line, "sorted")
-        if length(words) != length(first_end):
+        if length(words) != length(root):
             raise Broken(line, "height")
-        if words == second_end:
+        if words == absent:
             raise Broken(line, "absent")
         if leads_out(words, moves, known):
             raise Broken(line, "closed")
@@ -509,7 +552,9 @@ def check_no_level(reader, first, second):
     level = read_level(reader)
     read_end(reader)
     check_sides(reader.rank, first, first_side, second, second_side, one_length=True)
-    check_level(reader.rank, first_side, second_side, level)
+    _, (_, first_end), _ = first_side
+    _, (_, second_end), _ = second_side
+    check_level(reader.rank, first_end, second_end, level)
 
 
 def check_decided(reader):
@@ -573,6 +618,149 @@ def check_straight(reader):
         raise Broken(end_line, "end")
 
 
+# ---- stabilisers
+
+
+def read_tree(reader):
+    line, fields = reader.next("tree")
+    if len(fields) != 3:
+        raise BadLine(line)
+    vertex, parent = (reader.number(line, field, 1, MOST_VALUE) for field in fields[:2])
+    return line, vertex, parent, reader.move(line, fields[2])
+
+
+def read_generator(reader):
+    line, fields = reader.next("generator")
+    if len(fields) != 2:
+        raise BadLine(line)
+    return line, reader.number(line, fields[0], 1, MOST_VALUE), reader.move(line, fields[1])
+
+
+def read_relator(reader):
+    line, fields = reader.next("relator")
+    if fields.count("=") != 1 or fields.index("=") < 2:
+        raise BadLine(line)
+    middle = fields.index("=")
+    vertex = reader.number(line, fields[0], 1, MOST_VALUE)
+    moves = [reader.move(line, field) for field in fields[1:middle]]
+    return line, vertex, moves, [reader.number(line, field, 1, MOST_VALUE) for field in fields[middle + 1 :]]
+
+
+def read_counted(reader, keyword, most, read):
+    """A line with a number, and so many lines behind it."""
+    line, fields = reader.next(keyword)
+    if len(fields) != 1:
+        raise BadLine(line)
+    count = reader.number(line, fields[0], 0, most)
+    return line, [read(reader) for _ in range(count)]
+
+
+def refuse_undecided(reader):
+    """Refuses a verdict, if that is the next line."""
+    if reader.at == len(reader.kept) or reader.peek()[1][0] != "verdict":
+        return
+    line, verdict = reader.next("verdict")
+    if len(verdict) != 3 or verdict[0] != "undecided":
+        raise BadLine(line)
+    if verdict[1] in ("length", "level"):
+        reader.number(line, verdict[2], 0, MOST_NUMBER)
+    elif verdict[1:] not in (["edges", str(MOST_EDGES)], ["relators", str(MOST_RELATORS)]):
+        raise BadLine(line)
+    raise NoCertificate(line)
+
+
+class Graph:
+    """A level as a graph: its tuples are the vertices, and its edges are their level moves. Vertices count from 0."""
+
+    def __init__(self, rank, vertices):
+        self.rank = rank
+        self.places = {hashed(words): place for place, words in enumerate(vertices)}
+        self.edges = {}
+        for place, words in enumerate(vertices):
+            for move, images in zip(every_move(rank), every_images(rank)):
+                taken = taken_by(words, images)
+                is_identity = move[0] == "cut" and len(move[2]) == 1
+                if length(taken) == length(words) and not is_identity:
+                    self.edges[place, move] = self.places[hashed(map(first_rotation, taken))]
+
+
+def check_tree(graph, root, lines):
+    """The parents of the vertices, which lead to the root."""
+    others = [place for place in range(len(graph.places)) if place != root]
+    parents = {place: (parent - 1, move) for place, (_, _, parent, move) in zip(others, lines)}
+    rooted = {root}
+    for place, (line, vertex, parent, move) in zip(others, lines):
+        if vertex - 1 != place or graph.edges.get((parent - 1, move)) != place:
+            raise Broken(line, "tree")
+        way = []
+        while place not in rooted:
+            if place in way or place not in parents:
+                raise Broken(line, "tree")
+            way.append(place)
+            place = parents[place][0]
+        rooted.update(way)
+    return parents
+
+
+def check_generators(graph, parents, generators):
+    """The numbers of the edges that aren't in the tree."""
+    count_line, lines = generators
+    off = [edge for edge, end in graph.edges.items() if parents.get(end) != edge]
+    if len(lines) != len(off):
+        raise Broken(count_line, "generators")
+    for (line, vertex, move), edge in zip(lines, off):
+        if (vertex - 1, move) != edge:
+            raise Broken(line, "generator")
+    return {edge: number for number, edge in enumerate(off, 1)}
+
+
+def composite(line, rank, moves):
+    """The images of the generators under a list of moves, each reduced. They never have too many letters."""
+    words = [[2 * g] for g in range(rank)]
+    for move in moves:
+        images = images_of(rank, move)
+        words = [freely_reduced([y for x in word for y in images[x]]) for word in words]
+        if length(words) > MOST_IMAGE_LETTERS:
+            raise Broken(line, "wide")
+    return words
+
+
+def check_relator(graph, numbers, line, vertex, moves, told):
+    place = vertex - 1
+    passed = []
+    for move in moves:
+        edge = place, move
+        if edge not in graph.edges:
+            raise Broken(line, "step")
+        passed += [numbers[edge]] if edge in numbers else []
+        place = graph.edges[edge]
+    if place != vertex - 1:
+        raise Broken(line, "loop")
+    if composite(line, graph.rank, moves) != [[2 * g] for g in range(graph.rank)]:
+        raise Broken(line, "identity")
+    if passed != told:
+        raise Broken(line, "numbers")
+
+
+def check_presented(reader):
+    _, words = reader.tuple("tuple")
+    refuse_undecided(reader)
+    side = read_side(reader)
+    level = read_level(reader)
+    tree = [read_tree(reader) for _ in level[1][1:]]
+    generators = read_counted(reader, "generators", MOST_EDGES, read_generator)
+    relators = read_counted(reader, "relators", MOST_RELATORS, read_relator)
+    read_end(reader)
+    check_side(reader.rank, words, side)
+    _, (_, end), _ = side
+    check_level(reader.rank, end, None, level)
+    graph = Graph(reader.rank, [words for _, words in level[1]])
+    parents = check_tree(graph, graph.places[hashed(end)], tree)
+    numbers = check_generators(graph, parents, generators)
+    for relator in relators[1]:
+        check_relator(graph, numbers, *relator)
+
+
 # ---- all answers
 
 
@@ -616,6 +804,14 @@ def check_straightened(data):
     check_straight(reader)
 
 
+def check_stabiliser(data):
+    """The same for an answer of `stabiliser`."""
+    reader = Reader(data)
+    read_heading(reader, ("stabiliser",))
+    reader.rank = read_rank(reader, GREATEST_STABILISER_RANK)
+    check_presented(reader)
+
+
 def found(data, checked=check):
     """What is told of a text, and the exit status."""
     try:
@@ -627,12 +823,15 @@ def found(data, checked=check):
     return "valid", 0
 
 
+OTHER_CHECKS = {"--straightened": check_straightened, "--stabiliser": check_stabiliser}
+
+
 def main(words):
-    if words not in ([], ["--straightened"]):
+    if words and (len(words) > 1 or words[0] not in OTHER_CHECKS):
         print(__doc__, file=sys.stdout if words == ["--help"] else sys.stderr)
         return 0 if words == ["--help"] else 64
     data = sys.stdin.buffer.read(MOST_BYTES + 1)
-    text, status = found(data, check_straightened if words else check)
+    text, status = found(data, OTHER_CHECKS[words[0]] if words else check)
     print(text)
     return status
 
