@@ -12,3 +12,5 @@ pub mod FirstParents
 pub mod Absent
 pub mod Growth
 pub mod OtherPlaces
+pub mod LevelEdges
+pub mod EdgeNumbers
