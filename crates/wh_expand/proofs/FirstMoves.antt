@@ -23,14 +23,14 @@ use Rattle.wh_expand.specs.Pieces.{LacksBetween}
 use Rattle.wh_expand.specs.Rows.{AreLevelMoves}
 use Rattle.wh_expand.proofs.KindOrder.{Follows, none_before, all_before, next_swap, next_invert, next_cut, after_swaps, after_inversions, after_multiplier}
 
--- ---- a greater move at the end
-sorted_push : (ms : List Move) (m : Move) → IsStrictlySortedBy move_cmp ms → All (λ x. move_cmp x m ≡ Less) ms → IsStrictlySortedBy move_cmp (ms ++ m ∷ [])
+-- ---- a greater key at the end
+pub sorted_push : {K : Type 0} (R : K → K → Ordering) (ks : List K) (k : K) → IsStrictlySortedBy R ks → All (λ x. R x k ≡ Less) ks → IsStrictlySortedBy R (ks ++ k ∷ [])
 unfolding IsStrictlySortedBy
-sorted_push [] m s h = (tt, tt)
-sorted_push (x ∷ ms) m s h = (
-  recursion_from_All (λ y. move_cmp x y ≡ Less) (ms ++ m ∷ [])
-      (All-push (λ y. move_cmp x y ≡ Less) ms m (All-from_recursion (λ y. move_cmp x y ≡ Less) ms s.0) (All-head (λ y. move_cmp y m ≡ Less) x ms h)),
-  sorted_push ms m s.1 (All-tail (λ y. move_cmp y m ≡ Less) x ms h),
+sorted_push R [] k s h = (tt, tt)
+sorted_push R (x ∷ ks) k s h = (
+  recursion_from_All (λ y. R x y ≡ Less) (ks ++ k ∷ [])
+      (All-push (λ y. R x y ≡ Less) ks k (All-from_recursion (λ y. R x y ≡ Less) ks s.0) (All-head (λ y. R y k ≡ Less) x ks h)),
+  sorted_push R ks k s.1 (All-tail (λ y. R y k ≡ Less) x ks h),
 )
 
 -- ---- the moves before a kind
@@ -53,7 +53,7 @@ none_first t = record {
 module _ (t : TupleData) (b c : Kind) (ms : List Move) (are : AreLevelMovesBefore t b ms) (next : Follows t.rank b c) where
   pub push_level : (m : Move) → IsLevelMove t m → m.kind ≡ b → AreLevelMovesBefore t c (ms ++ m ∷ [])
   push_level m level e = record {
-    sorted = sorted_push ms m are.sorted (λ k d l. below (get_or ms k d) (Contains-get_or ms k d l));
+    sorted = sorted_push move_cmp ms m are.sorted (λ k d l. below (get_or ms k d) (Contains-get_or ms k d l));
     exact = λ x. (there x, back x);
   }
     where

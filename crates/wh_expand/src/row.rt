@@ -55,9 +55,10 @@ fn push_level_moves(alloc: Global, moves: &mut Vec<Move>, tuple: &Tuple) -> Resu
     Ok(())
 }
 
-/// The level moves of a tuple, in the order of moves, in memory of just their size: rows are kept in great numbers, and
-/// none in what a longer list leaves over.
-fn own_level_moves(alloc: Global, tuple: &Tuple) -> Result<Vec<Move>, OutOfMemory>
+/// The level moves of a tuple of rank MOST_LEVEL_RANK at most, in the order of moves, each once, without a step (Lyndon and
+/// Schupp, I.4). It answers an error where memory runs out. They lie in memory of just their size: rows are kept in great
+/// numbers, and none in what a longer list leaves over.
+pub fn own_level_moves(alloc: Global, tuple: &Tuple) -> Result<Vec<Move>, OutOfMemory>
     requires { tuple.now.plain.rank ≤ most_level_rank }
     ensures { IfOk result (λ v. AreLevelMoves tuple.now.plain v.items) }
 {

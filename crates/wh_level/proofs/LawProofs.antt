@@ -54,6 +54,23 @@ sorted_same {K} {R} o (x ∷ xs) (y ∷ ys) s u h k =
     let rest : xs ≡ ys = sorted_same o xs ys (sorted_tail R x xs s) (sorted_tail R y ys u) (rest_within o x y xs ys e s h) (rest_within o y x ys xs (sym e) u k) in
     ap (λ z. z ∷ xs) e ∙ ap (λ l. y ∷ l) rest
 
+-- The one has no more elements than the other where it has no others.
+pub sorted_within : {K : Type 0} {R : K → K → Ordering} (o : IsTotalOrder R) (xs ys : List K) → IsStrictlySortedBy R xs → IsStrictlySortedBy R ys → ((z : K) → Contains xs z → Contains ys z) → length xs ≤ length ys
+sorted_within o [] ys s u h = omega arith
+sorted_within o (x ∷ xs) [] s u h = absurd (contains_none x (h x (contains_first x xs)))
+sorted_within {K} {R} o (x ∷ xs) (y ∷ ys) s u h = elim (contains_cases y ys x (h x (contains_first x xs))) [
+  | inl is ↦ omega (arith, sorted_within o xs ys (sorted_tail R x xs s) (sorted_tail R y ys u) (rest_within o x y xs ys (sym is) s h))
+  | inr c ↦
+      let later : (z : K) → Contains (x ∷ xs) z → Contains ys z = λ z d. elim (contains_cases y ys z (h z d)) [
+        | inl is ↦ elim (contains_cases x xs z d) [
+          | inl same ↦ absurd (less_itself o x (subst (λ q. R q x ≡ Less) (is ∙ sym same) (after R y ys x u c)))
+          | inr e ↦ absurd (less_twice o x y (subst (λ q. R x q ≡ Less) (sym is) (after R x xs z s e)) (after R y ys x u c))
+        ]
+        | inr k ↦ k
+      ] in
+      omega (arith, sorted_within o (x ∷ xs) ys s (sorted_tail R y ys u) later)
+]
+
 pub level_unique : LevelIsUnique
 level_unique root ts us l m =
     sorted_same tuple_cmp_total ts us l.sorted m.sorted (λ t c. (m.exact t).1 ((l.exact t).0 c)) (λ t c. (l.exact t).1 ((m.exact t).0 c))

@@ -13,3 +13,5 @@ pub mod Absent
 pub mod Growth
 pub mod OtherPlaces
 pub mod TreePaths
+pub mod LevelEdges
+pub mod EdgeNumbers

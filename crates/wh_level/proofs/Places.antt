@@ -25,7 +25,7 @@ plains_length ts = length-map ts (λ (t : Tuple). t.plain)
 cases_order_le : (a b : ℕ) → (a ≤ b) ⊎ (b < a)
 cases_order_le a b = ⊎_elim (λ e. inl (omega arith)) (λ r. ⊎_elim (λ l. inl (omega arith)) (λ l. inr l) r) (cases_order a b)
 
-not_lt_back : (o p : Ordering) → o ≡ Less → o ≡ ordering_reverse p → is_lt p ≡ false
+pub not_lt_back : (o p : Ordering) → o ≡ Less → o ≡ ordering_reverse p → is_lt p ≡ false
 not_lt_back o Less e f = cc
 not_lt_back o Equal e f = refl
 not_lt_back o Greater e f = refl

@@ -3,6 +3,9 @@ use Rattle.std.specs.Prelude.{◌≡◌, ℕ, ◌≤◌, List, length, ◌↔◌
 use Rattle.wh_words.specs.Tuples.{TupleData, IsTuple}
 use Rattle.wh_words.specs.Moves.{Move}
 use Rattle.wh_words.specs.Levels.{InLevel, IsReached, IsLevel, IsFirstWalk, HasMoreThan}
+use Rattle.wh_level.specs.Trees.{LevelData}
+use Rattle.wh_level.specs.LevelEdges.{AreEdges}
+use Rattle.wh_level.specs.declared.edge_list.Edge.{Edge}
 
 -- The level of a tuple has every tuple that some list of moves that keep the length leads to from it, and nothing else.
 abbrev pub LevelIsWhatIsReached : Type 0
@@ -19,3 +22,7 @@ LimitIsExact = (root : TupleData) (ts : List TupleData) (limit : ℕ) → IsLeve
 -- There is one first walk from a root to a tuple.
 abbrev pub FirstWalkIsUnique : Type 0
 FirstWalkIsUnique = (root t : TupleData) (ms ns : List Move) → IsFirstWalk root t ms → IsFirstWalk root t ns → ms ≡ ns
+
+-- A level has one list of edges.
+abbrev pub EdgesAreUnique : Type 0
+EdgesAreUnique = (l : LevelData) (ds es : List Edge) → AreEdges l ds → AreEdges l es → ds ≡ es

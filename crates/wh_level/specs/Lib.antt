@@ -4,3 +4,4 @@ pub mod Laws
 pub mod Searches
 pub mod PlacedTuples
 pub mod GrowingLevels
+pub mod LevelEdges

@@ -1,6 +1,7 @@
 //! Closed levels: all tuples that moves reach from a root without a change of length, with their first walks.
 #![tactic(auto)]
 
+mod edge_list;
 mod first_walks;
 mod growing_level;
 pub mod laws;
@@ -12,6 +13,7 @@ mod sealing;
 mod search;
 mod tree_copy;
 
+pub use edge_list::{Edge, edge_number, edges, few_edges};
 pub use first_walks::Tree;
 pub use growing_level::GrowingLevel;
 pub use level::Level;

@@ -29,7 +29,7 @@ pub enum Sealed {
 }
 
 /// A tuple without words, with rooms for every tuple of the level of a root.
-fn blank(alloc: Global, root: &Tuple) -> Result<Tuple, OutOfMemory>
+pub(crate) fn blank(alloc: Global, root: &Tuple) -> Result<Tuple, OutOfMemory>
     ensures rooms { IfOk result (λ t. HasRoomsFor t root.now.plain) }
     ensures root { IsTuple root.now.plain }
 {

@@ -1,7 +1,9 @@
 //! Levels: the level moves of a tuple, the rows of a level, its tree and its first walks.
 ghost use Rattle.std.specs.Prelude.{◌≡◌, ◌<◌, ◌≤◌, length, IfOk, IfSome};
 ghost use Rattle.wh_words.specs.Limits.{most_level_rank};
+ghost use Rattle.std.specs.List.Sorted.{IsStrictlySortedBy};
 ghost use Rattle.wh_expand.specs.Rows.{IsRow, row_tuple};
+ghost use Rattle.wh_level.specs.LevelEdges.{edge_cmp};
 
 use crate::support::{has_words, have_words, rank, tuple};
 use std::alloc::Global;
@@ -9,7 +11,7 @@ use std::marker::Brand;
 use std::sync::ledger::{Blank, Ledger};
 use std::test::Fail;
 use wh_expand::{Row, level_moves};
-use wh_level::{Level, Sealed, Tree, seal, tree};
+use wh_level::{Edge, Level, Sealed, Tree, edge_number, edges, few_edges, seal, tree};
 use wh_moves::{Kind, Move};
 use wh_walk::walk;
 use wh_words::{MOST_LEVEL_RANK, OutOfMemory, Steps, Tuple};
@@ -304,6 +306,44 @@ fn commutator_gives(alloc: Global, texts: &[&str]) -> Result<bool, Fail> {
 fn a_tree_leads_from_the_root(rt: HostRuntime) -> Result<(), Fail> {
     assert!(rt; commutator_tree(rt.alloc())?);
     assert!(rt; commutator_gives(rt.alloc(), &["abAB", "aBAb"])?);
+    Ok(())
+}
+
+/// Whether each edge is found at its place.
+fn are_found(edges: &[Edge]) -> bool
+    requires { IsStrictlySortedBy edge_cmp edges.now }
+{
+    for k in 0..edges.len() {
+        if edge_number(edges, edges[k].from, &edges[k].via) != Some(k) {
+            return false;
+        }
+    }
+    true
+}
+
+/// How many edges a level has, and whether each is found at its place.
+fn edges_seen(alloc: Global, level: &Level) -> Result<(usize, bool), Fail> {
+    let edges = edges(alloc, level)?;
+    Ok((edges.len(), are_found(&edges)))
+}
+
+/// How many edges the level of a commutator has, and whether each is found at its place.
+fn commutator_edges(alloc: Global) -> Result<(usize, bool), Fail> {
+    let level = level(alloc, "rank 2\ntuple abAB\n", 2)?;
+    edges_seen(alloc, &level)
+}
+
+/// Whether the level of a commutator has at most so many edges.
+fn has_few_edges(alloc: Global, limit: usize) -> Result<bool, Fail> {
+    let level = level(alloc, "rank 2\ntuple abAB\n", 2)?;
+    Ok(few_edges(alloc, &level, limit)?.is_some())
+}
+
+#[test]
+fn each_of_two_tuples_has_fifteen_edges(rt: HostRuntime) -> Result<(), Fail> {
+    assert_eq!(rt; commutator_edges(rt.alloc())?, (30, true));
+    assert!(rt; has_few_edges(rt.alloc(), 30)?);
+    assert!(rt; !has_few_edges(rt.alloc(), 29)?);
     Ok(())
 }
 

@@ -1,0 +1,10 @@
+use Rattle.std.proofs.Common.{[]}
+use Rattle.wh_level.specs.PlacedTuples.{KeepsRooms}
+use Rattle.wh_level.specs.LevelEdges.{AreFirstEdges}
+use Rattle.wh_level.proofs.edge_list.push_all.Given as goal
+
+abbrev pub invariant-loop-from : goal.invariant-loop-from
+invariant-loop-from l = record {
+  rooms : KeepsRooms l.fn.image l.image;
+  edges : AreFirstEdges l.level l.from [] l.edges.items;
+}
