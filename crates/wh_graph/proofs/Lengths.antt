@@ -88,11 +88,17 @@ same_sum f h (w ∷ ws) c =
       same_sum f h ws (All-tail (λ v. cyclic_word v ≡ v) w ws c),
     )
 
+pub swaps_keep_words : (t : TupleData) (k n : ℕ) → All (λ w. cyclic_word w ≡ w) t.words → IsKind n (swap k) → tuple_length (act t (record { rank = n; kind = swap k })) ≡ tuple_length t
+swaps_keep_words t k n cyclic valid = same_sum (λ w. cyclic_word (substitute (swap k) w)) (λ w own. swap_length k w valid.0 own) t.words cyclic
+
+pub inversions_keep_words : (t : TupleData) (k n : ℕ) → All (λ w. cyclic_word w ≡ w) t.words → tuple_length (act t (record { rank = n; kind = invert k })) ≡ tuple_length t
+inversions_keep_words t k n cyclic = same_sum (λ w. cyclic_word (substitute (invert k) w)) (λ w own. invert_length k w own) t.words cyclic
+
 pub swaps_keep : SwapsKeepTheLength
-swaps_keep t k n is valid = same_sum (λ w. cyclic_word (substitute (swap k) w)) (λ w own. swap_length k w valid.0 own) t.words is.cyclic
+swaps_keep t k n is valid = swaps_keep_words t k n is.cyclic valid
 
 pub inversions_keep : InversionsKeepTheLength
-inversions_keep t k n is valid = same_sum (λ w. cyclic_word (substitute (invert k) w)) (λ w own. invert_length k w own) t.words is.cyclic
+inversions_keep t k n is valid = inversions_keep_words t k n is.cyclic
 
 -- ---- what the program computes
 pub swap_same : (t : TupleData) (m : Move) (k : ℕ) → IsTuple t → IsMove m → swap k ≡ m.kind → tuple_length t ≡ tuple_length (act t m)

@@ -9,11 +9,7 @@ use Rattle.wh_words.specs.LetterSets.{in_set}
 use Rattle.wh_words.specs.Moves.{IsCut}
 use Rattle.wh_words.specs.CapacityTraces.{IsSubset}
 use Rattle.wh_words.proofs.LetterMaps.{inverse_below}
-
--- The number of the letters below k that pass a test.
-unfoldable pub mask : ℕ → (ℕ → Bool) → ℕ
-mask zero has = 0
-mask (suc k) has = cond (has 0) 1 0 + 2 * mask k (λ x. has (suc x))
+pub use Rattle.wh_graph.specs.SetMasks.{mask}
 
 bit_small : (b : Bool) → cond b 1 0 < 2
 bit_small true = omega arith

@@ -1,3 +1,4 @@
 pub mod Graphs
+pub mod SetMasks
 pub mod CapacityTables
 pub mod Laws

@@ -156,7 +156,7 @@ inversions_take_cuts n k a A B s u v h =
     (taken (invert_letter k) (invert_turns k) (invert_back k) a (in_set A) (cut_of n a A u))
 
 -- ---- two multipliers
-turned_cut : (n a b A : ℕ) → IsCut n a A → IsCut n b A → b ≢ a → IsCut n b (turned_set a A)
+pub turned_cut : (n a b A : ℕ) → IsCut n a A → IsCut n b A → b ≢ a → IsCut n b (turned_set a A)
 turned_cut n a b A u v ne = record {
   of_rank = v.of_rank;
   within = turned_within a A u.holds u.omits (2 * n) u.within (inverse_below n a u.of_rank);

@@ -1,0 +1,11 @@
+pub mod Carrying
+pub mod Lists
+pub mod Sets
+pub mod FamilyRelations
+pub mod WaysRound
+pub mod KeptLengths
+pub mod KeptFamilies
+pub mod ChosenLists
+pub mod Listed
+pub mod Measured
+pub mod SetWords
