@@ -12,6 +12,6 @@ pub mod FirstParents
 pub mod Absent
 pub mod Growth
 pub mod OtherPlaces
-pub mod TreePaths
 pub mod LevelEdges
 pub mod EdgeNumbers
+pub mod Paths

@@ -1,5 +1,5 @@
 -- The tree of first walks of a level: each tuple but the root has a parent and a move that leads from it.
-use Rattle.std.specs.Prelude.{◌≡◌, ◌≢◌, ℕ, zero, suc, ◌<◌, ◌≤◌, List, [], ◌∷◌, ◌++◌, length, reverse, get_or, Option, Some, None, slice_get, ◌↔◌}
+use Rattle.std.specs.Prelude.{◌≡◌, ◌≢◌, ℕ, zero, suc, ◌<◌, ◌≤◌, List, [], ◌∷◌, length, reverse, get_or, Option, Some, None, slice_get, ◌↔◌}
 use Rattle.wh_words.specs.Limits.{most_level_rank}
 use Rattle.wh_words.specs.Tuples.{TupleData}
 use Rattle.wh_words.specs.Moves.{Move}
@@ -39,25 +39,31 @@ pub record IsClosedLevel (l : LevelData) : Type 0 where
   pub level : IsLevel l.root l.tuples
   pub parents : AreParents l.root l.tuples l.parents
 
--- ---- paths
--- The parents lead back from each place, and on the way meet no place twice.
-abbrev pub IsRooted : Parents → Type 0
-IsRooted parents = (v : ℕ) → v < length parents → (back : List Move) × LeadsBack parents v back × (length back < length parents)
+-- ---- paths from the root
+-- A way back over the parent that stands at a place, given the ways back from others. It ends where there is none.
+abbrev pub back_over : (ℕ → List Move) → Option (Option (ℕ × Move)) → List Move
+back_over back None = []
+back_over back (Some None) = []
+back_over back (Some (Some p)) = p.1 ∷ back p.0
 
--- The path to a place, where paths to others are known: the path to its parent and the move from there, and none without a parent.
-abbrev pub onward : (ℕ → List Move) → Option (Option (ℕ × Move)) → List Move
-onward path None = []
-onward path (Some None) = []
-onward path (Some (Some p)) = path p.0 ++ p.1 ∷ []
+-- The moves that lead back from a place along the parents, the last one first, at most so many.
+unfoldable pub back_from : Parents → ℕ → ℕ → List Move
+back_from parents zero v = []
+back_from parents (suc n) v = back_over (back_from parents n) (slice_get parents v)
 
--- The path to a place along the parents, of at most so many moves.
-abbrev pub path_within : Parents → ℕ → ℕ → List Move
-path_within parents zero v = []
-path_within parents (suc n) v = onward (path_within parents n) (slice_get parents v)
-
--- The moves that lead to a place along the parents, from where these begin.
+-- The moves of the path from the root to a place.
 abbrev pub path_to : Parents → ℕ → List Move
-path_to parents v = path_within parents (length parents) v
+path_to parents v = reverse (back_from parents (length parents) v)
+
+-- The parents lead back from a place to one without a parent, by fewer moves than there are places.
+pub record HasWayBack (parents : Parents) (v : ℕ) : Type 0 where
+  pub back : List Move
+  pub leads : LeadsBack parents v back
+  pub short : length back < length parents
+
+-- They do so from each place.
+abbrev pub IsRooted : Parents → Type 0
+IsRooted parents = (v : ℕ) → v < length parents → HasWayBack parents v
 
 -- ---- other places
 -- A parent whose place has become another one.

@@ -54,6 +54,14 @@ impl Level {
         self.parents[place]
     }
 
+    /// The parents of all tuples, by their places.
+    pub fn parents(&self) -> &[Option<(usize, Move)>]
+        ensures parents { result.now ≡ self.now.parents }
+        ensures closed { IsClosedLevel self.now }
+    {
+        self.parents.as_slice()
+    }
+
     /// The place of a tuple, counted from 0. None exactly where it isn't in the level.
     pub fn place(&self, tuple: &Tuple) -> Option<usize>
         ensures place { MatchOption result (¬ (InLevel self.now.root tuple.now.plain)) (λ v. slice_get self.now.tuples v ≡ Some tuple.now.plain) }

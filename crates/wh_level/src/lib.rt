@@ -1,6 +1,7 @@
 //! Closed levels: all tuples that moves reach from a root without a change of length, with their first walks.
 #![tactic(auto)]
 
+mod along_tree;
 mod edge_list;
 mod first_walks;
 mod growing_level;
@@ -13,6 +14,7 @@ mod sealing;
 mod search;
 mod tree_copy;
 
+pub use along_tree::tree_path;
 pub use edge_list::{Edge, edge_number, edges, few_edges};
 pub use first_walks::Tree;
 pub use growing_level::GrowingLevel;
