@@ -9,11 +9,10 @@ ghost use Rattle.wh_answer.specs.Findings.{Finds};
 ghost use Rattle.wh_answer.specs.Traced.{AreApart};
 
 use crate::exploring::explore;
-use crate::joining::joined;
 use std::alloc::Global;
 use wh_data::Bound;
 use wh_level::Level;
-use wh_moves::Move;
+use wh_moves::{Move, joined};
 use wh_reduce::Trace;
 use wh_walk::walk;
 use wh_words::{List, MOST_LEVEL_LENGTH, OutOfMemory, Tuple};

@@ -5,7 +5,6 @@ mod answering;
 mod deciding;
 mod exploring;
 mod finding;
-mod joining;
 pub mod laws;
 mod side;
 mod straightening;

@@ -1,5 +1,5 @@
 -- The parents of a level are a tree of it.
-use Rattle.std.proofs.Common.{◌≡◌, ℕ, ◌<◌, List, [], ◌∷◌, ◌++◌, length, reverse, get_or, Some, None, slice_get, refl, sym, ap, ◌∙◌, subst, arith}
+use Rattle.std.proofs.Common.{◌≡◌, ℕ, ◌<◌, List, [], ◌∷◌, ◌++◌, length, reverse, get_or, Some, None, slice_get, sym, ap, ◌∙◌, subst, arith}
 use Rattle.std.proofs.lemmas.List.{reverse-append}
 use Rattle.std.proofs.lemmas.Option.{slice_get-get_or, slice_get_within, same_Some}
 use Rattle.wh_words.specs.Tuples.{TupleData}
@@ -10,6 +10,7 @@ use Rattle.wh_words.specs.Levels.Reaches.{here, step}
 use Rattle.wh_moves.proofs.Walks.{reached_itself}
 use Rattle.wh_peak.proofs.ShortestTuples.{walk-end}
 use Rattle.wh_level.specs.Trees.{LeadsBack, IsWalkedTo}
+use Rattle.wh_level.proofs.Paths.{leads_within, leads_one, closed_rooted}
 use Rattle.wh_level.specs.Trees.LeadsBack.{root as back_root, step as back_step}
 use Rattle.wh_stab.specs.SpanningTrees.{IsLink}
 use Rattle.wh_stab.specs.Laws.{FirstWalksSpan}
@@ -38,17 +39,11 @@ first_walks_span l closed = record {
       let t : TupleData = get_or l.tuples v l.root in
       let at : slice_get l.tuples v ≡ Some t = slice_get-get_or l.tuples v l.root (omega (arith, slice_get_within l.parents v None e, closed.parents.count)) in
       at ∙ ap Some ((closed.parents.none v t at).0 e);
-  rooted = λ v h.
-      let walk : IsWalkedTo l.root l.parents v (get_or l.tuples v l.root) = closed.parents.walks v (get_or l.tuples v l.root) (slice_get-get_or l.tuples v l.root (omega (arith, h, closed.parents.count))) in
-      (walk.back, walk.leads, walk.short);
+  rooted = closed_rooted l closed;
 }
   where
     at_place : (v : ℕ) → v < length l.parents → slice_get l.tuples v ≡ Some (get_or l.tuples v l.root)
     at_place v h = slice_get-get_or l.tuples v l.root (omega (arith, h, closed.parents.count))
-
-    leads_within : (v : ℕ) (ms : List Move) → LeadsBack l.parents v ms → v < length l.parents
-    leads_within v [] (back_root e) = slice_get_within l.parents v None e
-    leads_within v (m ∷ ms) (back_step {p = p} e r) = slice_get_within l.parents v (Some (p, m)) e
 
     linked : (v p : ℕ) (m : Move) → slice_get l.parents v ≡ Some (Some (p, m)) → IsLink l.tuples p m v
     linked v p m e =
@@ -63,11 +58,11 @@ first_walks_span l closed = record {
             let same : (q, n) ≡ (p, m) = same_Some (q, n) (p, m) (same_Some (Some (q, n)) (Some (p, m)) (sym f ∙ e)) in
             let back : LeadsBack l.parents p ns = subst (λ (k : ℕ). LeadsBack l.parents k ns) (ap (λ (x : ℕ × Move). x.0) same) r in
             let s : TupleData = get_or l.tuples p l.root in
-            let at_p : slice_get l.tuples p ≡ Some s = at_place p (leads_within p ns back) in
+            let at_p : slice_get l.tuples p ≡ Some s = at_place p (leads_within l.parents p ns back) in
             let walk : IsWalkedTo l.root l.parents p s = closed.parents.walks p s at_p in
             let parted : Parted l.root t (reverse ns) m =
             part l.root t (reverse ns) m (subst (λ (k : List Move). Reaches l.root k t) (reverse-append (n ∷ []) ns ∙ ap (λ (x : ℕ × Move). reverse ns ++ x.1 ∷ []) same) w) in
-            let same_back : walk.back ≡ ns = one_back p walk.back ns walk.leads back in
+            let same_back : walk.back ≡ ns = leads_one l.parents p walk.back ns walk.leads back in
             let before : parted.before ≡ s = one_end parted.leads (subst (λ (k : List Move). Reaches l.root (reverse k) s) same_back walk.first.leads) in
             record {
               tuple = s;
@@ -75,12 +70,3 @@ first_walks_span l closed = record {
               moves = subst (λ (x : TupleData). IsLevelMove x m) before parted.moves;
               ends = at ∙ ap Some (sym parted.is ∙ ap (λ (x : TupleData). act x m) before);
             }
-          where
-            one_back : (v : ℕ) (ms ns : List Move) → LeadsBack l.parents v ms → LeadsBack l.parents v ns → ms ≡ ns
-            one_back v [] [] (back_root e) (back_root f) = refl
-            one_back v [] (n ∷ ns) (back_root e) (back_step f s) = absurd (cc)
-            one_back v (m ∷ ms) [] (back_step e r) (back_root f) = absurd (cc)
-            one_back v (m ∷ ms) (n ∷ ns) (back_step {p = p} e r) (back_step {p = q} f s) =
-                let same : (p, m) ≡ (q, n) = same_Some (p, m) (q, n) (same_Some (Some (p, m)) (Some (q, n)) (sym e ∙ f)) in
-                let rest : ms ≡ ns = one_back p ms ns r (subst (λ (k : ℕ). LeadsBack l.parents k ns) (sym (ap (λ (x : ℕ × Move). x.0) same)) s) in
-                ap (λ k. k ∷ ms) (ap (λ (x : ℕ × Move). x.1) same) ∙ ap (λ k. n ∷ k) rest

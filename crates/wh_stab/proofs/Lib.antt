@@ -2,4 +2,8 @@ pub mod Places
 pub mod TuplePaths
 pub mod TreeEdges
 pub mod FirstWalkTrees
+pub mod FirstGenerators
+pub mod WayNumbers
+pub mod ListedGenerators
+pub mod RelatorLists
 pub mod Words

@@ -1,5 +1,5 @@
 -- Edges of a tree, by paths: the path to the end of an edge is the path to its start and then the edge exactly where the edge is one of the tree.
-use Rattle.std.proofs.Common.{◌≡◌, ℕ, ◌<◌, List, [], ◌∷◌, ◌++◌, length, reverse, Some, None, slice_get, sym, ap, ◌∙◌, subst, arith}
+use Rattle.std.proofs.Common.{◌≡◌, ℕ, List, [], ◌∷◌, ◌++◌, length, reverse, Some, None, slice_get, sym, ap, ◌∙◌, subst, arith}
 use Rattle.std.proofs.lemmas.List.{reverse-append, reverse-reverse}
 use Rattle.std.proofs.lemmas.Option.{same_Some}
 use Rattle.wh_words.specs.Tuples.{TupleData}
@@ -7,7 +7,7 @@ use Rattle.wh_words.specs.Moves.{Move}
 use Rattle.wh_words.specs.Action.{act}
 use Rattle.wh_words.specs.Levels.{IsLevelMove, InLevel, IsLevel}
 use Rattle.wh_moves.proofs.Walks.{in_level_pushed}
-use Rattle.wh_level.specs.Trees.{Parents, LeadsBack}
+use Rattle.wh_level.specs.Trees.{Parents, LeadsBack, HasWayBack}
 use Rattle.wh_level.specs.Trees.LeadsBack.{root as back_root, step as back_step}
 use Rattle.wh_peak.proofs.ShortestTuples.{walk-end}
 use Rattle.wh_stab.specs.SpanningTrees.{IsLink, IsSpanningTree, place_of}
@@ -24,18 +24,18 @@ module _ (root : TupleData) (p : PresentationData) (level : IsLevel root p.verti
   -- A way back from a place of which a parent is known.
   pub on_path : (t : TupleData) (m : Move) → IsOfTree p t m → path_of p (act t m) ≡ path_of p t ++ m ∷ []
   on_path t m e =
-      let back : (b : List Move) × LeadsBack p.tree e.to b × (length b < length p.tree) = tree.rooted e.to (within root p.vertices p.tree level tree e.to (act t m) e.ends) in
-      by back.0 back.1 back.2
+      let way : HasWayBack p.tree e.to = tree.rooted e.to (within root p.vertices p.tree level tree e.to (act t m) e.ends) in
+      by way.back way.leads
     where
-      by : (b : List Move) → LeadsBack p.tree e.to b → length b < length p.tree → path_of p (act t m) ≡ path_of p t ++ m ∷ []
-      by [] (back_root f) short = absurd (none_or_some p.tree e.to (e.from, m) f e.parent)
-      by (n ∷ ns) (back_step {p = q} f r) short =
+      by : (b : List Move) → LeadsBack p.tree e.to b → path_of p (act t m) ≡ path_of p t ++ m ∷ []
+      by [] (back_root f) = absurd (none_or_some p.tree e.to (e.from, m) f e.parent)
+      by (n ∷ ns) (back_step {p = q} f r) =
           let same : (q, n) ≡ (e.from, m) = same_parent p.tree e.to (q, n) (e.from, m) f e.parent in
           let before : LeadsBack p.tree e.from ns = subst (λ (k : ℕ). LeadsBack p.tree k ns) (ap (λ (x : ℕ × Move). x.0) same) r in
-          path_is root p.vertices p.tree level tree e.to (n ∷ ns) (act t m) e.ends (back_step f r) short
+          path_is root p.vertices p.tree level tree e.to (n ∷ ns) (act t m) e.ends (back_step f r)
           ∙ (reverse-append (n ∷ []) ns
           ∙ (ap (λ (x : ℕ × Move). reverse ns ++ x.1 ∷ []) same
-          ∙ ap (λ (k : List Move). k ++ m ∷ []) (sym (path_is root p.vertices p.tree level tree e.from ns t e.starts before (omega (arith, short))))))
+          ∙ ap (λ (k : List Move). k ++ m ∷ []) (sym (path_is root p.vertices p.tree level tree e.from ns t e.starts before))))
 
   pub of_tree : (t : TupleData) (m : Move) → InLevel root t → IsLevelMove t m → path_of p (act t m) ≡ path_of p t ++ m ∷ [] → IsOfTree p t m
   of_tree t m l edge e =
@@ -43,10 +43,10 @@ module _ (root : TupleData) (p : PresentationData) (level : IsLevel root p.verti
       let w : ℕ = place_of p.vertices (act t m) in
       let at_v : slice_get p.vertices v ≡ Some t = listed root p.vertices p.tree level tree t l in
       let at_w : slice_get p.vertices w ≡ Some (act t m) = listed root p.vertices p.tree level tree (act t m) (in_level_pushed l edge) in
-      let back : (b : List Move) × LeadsBack p.tree v b × (length b < length p.tree) = tree.rooted v (within root p.vertices p.tree level tree v t at_v) in
-      let end : (b : List Move) × LeadsBack p.tree w b × (length b < length p.tree) = tree.rooted w (within root p.vertices p.tree level tree w (act t m) at_w) in
-      by v w at_v at_w back.0 back.1 end.0 end.1
-      (sym (path_is root p.vertices p.tree level tree w end.0 (act t m) at_w end.1 end.2) ∙ (e ∙ (ap (λ (k : List Move). k ++ m ∷ []) (path_is root p.vertices p.tree level tree v back.0 t at_v back.1 back.2) ∙ sym (reverse-append (m ∷ []) back.0))))
+      let back : HasWayBack p.tree v = tree.rooted v (within root p.vertices p.tree level tree v t at_v) in
+      let end : HasWayBack p.tree w = tree.rooted w (within root p.vertices p.tree level tree w (act t m) at_w) in
+      by v w at_v at_w back.back back.leads end.back end.leads
+      (sym (path_is root p.vertices p.tree level tree w end.back (act t m) at_w end.leads) ∙ (e ∙ (ap (λ (k : List Move). k ++ m ∷ []) (path_is root p.vertices p.tree level tree v back.back t at_v back.leads) ∙ sym (reverse-append (m ∷ []) back.back))))
     where
       turned : (b c : List Move) → reverse b ≡ reverse c → b ≡ c
       turned b c h = sym (reverse-reverse b) ∙ (ap reverse h ∙ reverse-reverse c)

@@ -13,10 +13,10 @@ use Rattle.wh_words.specs.Levels.Reaches.{here}
 use Rattle.wh_words.proofs.Elements.{contains_none, contains_cases}
 use Rattle.wh_words.proofs.SameTuples.{tied, tied_with_itself}
 use Rattle.wh_moves.proofs.Walks.{reaches_pushed}
-use Rattle.wh_level.specs.Trees.{Parents, LeadsBack, path_to}
+use Rattle.wh_level.specs.Trees.{Parents, LeadsBack, HasWayBack, path_to}
 use Rattle.wh_level.specs.Trees.LeadsBack.{root as back_root, step as back_step}
 use Rattle.wh_level.proofs.SearchEnds.{same_places}
-use Rattle.wh_level.proofs.TreePaths.{path_turned}
+use Rattle.wh_level.proofs.Paths.{path_is as place_path}
 use Rattle.wh_peak.specs.Stabilisers.{ArePaths}
 use Rattle.wh_stab.specs.SpanningTrees.{IsLink, IsSpanningTree, place_of, tuple_path}
 use Rattle.wh_stab.proofs.Places.{contained}
@@ -48,8 +48,8 @@ module _ (root : TupleData) (ts : List TupleData) (parents : Parents) (level : I
       (reaches_pushed m (leads_there p ms link.tuple r link.starts) link.moves))
 
   -- The path to a tuple is the way back from its place, turned round.
-  pub path_is : (v : ℕ) (back : List Move) (t : TupleData) → slice_get ts v ≡ Some t → LeadsBack parents v back → length back < length parents → tuple_path ts parents t ≡ reverse back
-  path_is v back t h leads short = ap (path_to parents) (place_is ts v t level.sorted h) ∙ path_turned parents (length parents) v back leads (omega (arith, short))
+  pub path_is : (v : ℕ) (back : List Move) (t : TupleData) → slice_get ts v ≡ Some t → LeadsBack parents v back → tuple_path ts parents t ≡ reverse back
+  path_is v back t h leads = ap (path_to parents) (place_is ts v t level.sorted h) ∙ place_path parents v back tree.rooted leads
 
   pub within : (v : ℕ) (t : TupleData) → slice_get ts v ≡ Some t → v < length parents
   within v t h = omega (arith, slice_get_within ts v t h, tree.count)
@@ -78,11 +78,11 @@ module _ (root : TupleData) (ts : List TupleData) (parents : Parents) (level : I
   tree_paths = record {
     leads = λ t l.
         let v : ℕ = place_of ts t in
-        let back : (b : List Move) × LeadsBack parents v b × (length b < length parents) = tree.rooted v (within v t (listed t l)) in
-        subst (λ (p : List Move). Reaches root p t) (sym (path_is v back.0 t (listed t l) back.1 back.2)) (leads_there v back.0 t back.1 (listed t l));
+        let way : HasWayBack parents v = tree.rooted v (within v t (listed t l)) in
+        subst (λ (p : List Move). Reaches root p t) (sym (path_is v way.back t (listed t l) way.leads)) (leads_there v way.back t way.leads (listed t l));
     at_root =
         let l : InLevel root root = ([], here) in
         let v : ℕ = place_of ts root in
-        let back : (b : List Move) × LeadsBack parents v b × (length b < length parents) = tree.rooted v (within v root (listed root l)) in
-        path_is v back.0 root (listed root l) back.1 back.2 ∙ ap reverse (root_back v back.0 (listed root l) back.1);
+        let way : HasWayBack parents v = tree.rooted v (within v root (listed root l)) in
+        path_is v way.back root (listed root l) way.leads ∙ ap reverse (root_back v way.back (listed root l) way.leads);
   }

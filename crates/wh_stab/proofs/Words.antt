@@ -149,7 +149,7 @@ pub numbers_unique : NumbersAreUnique
 numbers_unique t root v p ms ks js is n m = one_numbering t root p is n m
 
 -- ---- one list of generators
-same_off : (p q : PresentationData) (s : Start) → p.vertices ≡ q.vertices → p.tree ≡ q.tree → IsOffTree p s → IsOffTree q s
+pub same_off : (p q : PresentationData) (s : Start) → p.vertices ≡ q.vertices → p.tree ≡ q.tree → IsOffTree p s → IsOffTree q s
 same_off p q s vs tree off = record {
   tuple = off.tuple;
   starts = ap (λ (x : List TupleData). slice_get x s.0) (sym vs) ∙ off.starts;

@@ -1,3 +1,6 @@
 pub mod SpanningTrees
 pub mod Presentations
+pub mod Numberings
+pub mod GeneratorLists
+pub mod Relators
 pub mod Laws

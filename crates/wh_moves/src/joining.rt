@@ -2,8 +2,8 @@
 ghost use Rattle.std.specs.Prelude.{◌≡◌, ◌++◌, IfOk};
 ghost use Rattle.wh_words.specs.MoveLists.{inverse_list};
 
+use crate::moves::Move;
 use std::alloc::Global;
-use wh_moves::Move;
 use wh_words::OutOfMemory;
 
 /// The inverse of a list of moves: the inverses of its moves, the last one first.
@@ -14,7 +14,7 @@ fn inverted(alloc: Global, moves: &[Move]) -> Result<Vec<Move>, OutOfMemory>
     Ok(inverses)
 }
 
-/// A list of moves, then another, and then the inverse of a third.
+/// A list of moves, then another, and then the inverse of a third. It answers an error where memory runs out.
 pub fn joined(
     alloc: Global,
     there: &[Move],
