@@ -36,12 +36,15 @@ pub fields_below : (item : ℕ → List (List ℕ)) (k : ℕ) → fields_text (b
 unfolding below
 fields_below item k = flat_map-append (λ f. 32 ∷ f) (below item k) (item k)
 
--- words and moves as fields
+-- words, moves and numbers as fields
 pub word_fields : (ws : List (List ℕ)) → flat_map (λ w. 32 ∷ word_text w) ws ≡ fields_text (map word_text ws)
 word_fields ws = sym (flat_map-map (λ f. 32 ∷ f) word_text ws)
 
 pub move_fields : (ms : List Move) → flat_map (λ m. 32 ∷ kind_text m.kind) ms ≡ fields_text (map (λ m. kind_text m.kind) ms)
 move_fields ms = sym (flat_map-map (λ f. 32 ∷ f) (λ m. kind_text m.kind) ms)
+
+pub number_fields : (ns : List ℕ) → flat_map (λ n. 32 ∷ decimal n) ns ≡ fields_text (map decimal ns)
+number_fields ns = sym (flat_map-map (λ f. 32 ∷ f) decimal ns)
 
 -- a pair of letters, as text
 pair_by : (t : Bool) (w : List ℕ) → cond t [] (32 ∷ w) ≡ fields_text (cond t [] (w ∷ []))

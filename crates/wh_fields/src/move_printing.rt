@@ -23,7 +23,7 @@ fn print_set(out: &mut Vec<u8>, set: LetterSet) -> Result<(), OutOfMemory>
 }
 
 /// Writes a move as a field.
-fn print_move(out: &mut Vec<u8>, m: &Move) -> Result<(), OutOfMemory>
+pub fn print_move(out: &mut Vec<u8>, m: &Move) -> Result<(), OutOfMemory>
     ensures { OnOk result (out.new.items ≡ out.old.items ++ (32 ∷ kind_text m.now.kind)) }
 {
     out.push(b' ')?;
@@ -45,7 +45,7 @@ fn print_move(out: &mut Vec<u8>, m: &Move) -> Result<(), OutOfMemory>
 }
 
 /// Writes moves as fields.
-fn print_move_fields(out: &mut Vec<u8>, moves: &[Move]) -> Result<(), OutOfMemory>
+pub fn print_move_fields(out: &mut Vec<u8>, moves: &[Move]) -> Result<(), OutOfMemory>
     ensures { OnOk result (out.new.items ≡ out.old.items ++ fields_text (map (λ m. kind_text m.kind) moves.now)) }
 {
     for m in moves {
