@@ -13,14 +13,14 @@ The last line is for GAP, where F is FreeGroup(RANK). Automorphisms act on the r
 lists that follow one another are the product of their automorphisms, in GAP too.
 
 A generator `generator V MOVE` of a stabiliser stands for a list of moves, which fixes the tuple: the trace, the tree's path
-to vertex V, MOVE, the path to the vertex after MOVE back, and the trace back.
+to vertex V, MOVE, the path to the vertex after MOVE back, and the trace back. The answer has to keep the rules of
+`check_certificate.py --stabiliser`, but for those of relators. Images have at most 65,536 letters on the way.
 """
 
 import sys
 
-from check_certificate import BadLine, Graph, Reader, composite, hashed, inverse, read_generator, read_counted, read_heading
-from check_certificate import GREATEST_RANK, GREATEST_STABILISER_RANK, MOST_EDGES
-from check_certificate import check_tree, read_level, read_rank, read_side, read_tree, refuse_undecided, Broken, Refused
+from check_certificate import GREATEST_RANK, MOST_BYTES, BadLine, Broken, Reader, Refused
+from check_certificate import check_generated, composite, inverse, read_stabiliser
 
 
 def letter_text(x):
@@ -33,13 +33,13 @@ def gap_letter(x):
 
 
 def gap_word(word):
-    return "*".join(map(gap_letter, word)) or "One(F)"
+    return "*".join(map(gap_letter, word))
 
 
 def lines_of(rank, images):
     """The lines that tell what the generators go to."""
     for g, word in enumerate(images):
-        yield f"{letter_text(2 * g)} -> {''.join(map(letter_text, word)) or '1'}"
+        yield f"{letter_text(2 * g)} -> {''.join(map(letter_text, word))}"
     generators = ", ".join(gap_letter(2 * g) for g in range(rank))
     yield f"GroupHomomorphismByImages(F, F, [{generators}], [{', '.join(map(gap_word, images))}])"
 
@@ -59,44 +59,33 @@ def back(moves):
 # ---- answers of stabiliser
 
 
-def paths_of(root, parents):
-    """The path from the root to each vertex, by the parents of a tree."""
-
-    def path(place):
-        if place == root:
-            return []
-        parent, move = parents[place]
-        return path(parent) + [move]
-
-    return path
+def path_to(graph, parents, vertex):
+    """The path from the root of a graph to a vertex, by the parents of a tree."""
+    turned = []
+    while vertex != graph.root:
+        vertex, move = parents[vertex]
+        turned.append(move)
+    return turned[::-1]
 
 
 def generator_lists(data):
     """The rank, and for each generator of an answer of `stabiliser` its list of moves."""
-    reader = Reader(data)
-    read_heading(reader, ("stabiliser",))
-    reader.rank = read_rank(reader, GREATEST_STABILISER_RANK)
-    reader.tuple("tuple")
-    refuse_undecided(reader)
-    (_, trace), (_, end), _ = read_side(reader)
-    _, ats = read_level(reader)
-    lines = [read_tree(reader) for _ in ats[1:]]
-    _, generators = read_counted(reader, "generators", MOST_EDGES, read_generator)
-    graph = Graph(reader.rank, [words for _, words in ats])
-    root = graph.places[hashed(end)]
-    path = paths_of(root, check_tree(graph, root, lines))
-    lists = []
-    for _, vertex, move in generators:
-        to = graph.edges[vertex - 1, move]
-        lists.append(trace + path(vertex - 1) + [move] + back(path(to)) + back(trace))
-    return reader.rank, lists
+    rank, told = read_stabiliser(data)
+    graph, parents, numbers = check_generated(rank, told)
+    (_, trace), _, _ = told.side
+
+    def path(vertex):
+        return trace + path_to(graph, parents, vertex)
+
+    return rank, (path(vertex) + [move] + back(path(graph.edges[vertex, move])) for vertex, move in numbers)
 
 
-def write_generators(data):
+def generators_lines(data):
+    """The lines that tell the generators of an answer."""
     rank, lists = generator_lists(data)
     for number, moves in enumerate(lists, 1):
-        print(f"generator {number}")
-        print(*lines_of(rank, composite(0, rank, moves)), sep="\n")
+        yield f"generator {number}"
+        yield from lines_of(rank, composite(0, rank, moves))
 
 
 # ---- the command line
@@ -109,22 +98,28 @@ def read_words(words):
     return reader.rank, [reader.move(0, word) for word in words[1:]]
 
 
+def lines_for(words):
+    """The lines that words ask for."""
+    if words == ["--generators"]:
+        return list(generators_lines(sys.stdin.buffer.read(MOST_BYTES + 1)))
+    rank, moves = read_words(words)
+    return list(lines_of(rank, composite(0, rank, moves)))
+
+
 def main(words):
     if not words or words == ["--help"]:
         print(__doc__, file=sys.stdout if words else sys.stderr)
         return 0 if words else 64
     try:
-        if words == ["--generators"]:
-            write_generators(sys.stdin.buffer.read())
-        else:
-            rank, moves = read_words(words)
-            print(*lines_of(rank, composite(0, rank, moves)), sep="\n")
-    except BadLine:
-        print("automorphism: a rank or a move isn't spelled as it should be, or the answer is none of stabiliser", file=sys.stderr)
+        lines = lines_for(words)
+    except Broken:
+        print("automorphism: the answer has no valid generators, or images have too many letters", file=sys.stderr)
         return 2
-    except (Refused, Broken, KeyError):
-        print("automorphism: the answer has no valid generators, or the images have too many letters", file=sys.stderr)
+    except Refused as refused:
+        cause = refused.cause if words == ["--generators"] else "the rank or a move isn't spelled as it should be"
+        print(f"automorphism: {cause}", file=sys.stderr)
         return 2
+    print(*lines, sep="\n")
     return 0
 
 

@@ -123,6 +123,7 @@ import functools
 import itertools
 import re
 import sys
+import typing
 
 from alike import are_alike
 
@@ -358,6 +359,10 @@ class Reader:
             raise BadByte(number, column)
         return number, fields
 
+    def is_next(self, keyword):
+        """Whether there is a next kept line, and it has this keyword."""
+        return self.at < len(self.kept) and self.peek()[1][0] == keyword
+
     def next(self, keyword):
         """The number and the further fields of the next kept line, which has this keyword."""
         if self.at == len(self.kept):
@@ -401,9 +406,9 @@ class Reader:
     def move(self, line, text):
         if text[1:2] == ":":
             return self.cut(line, text)
-        if text[0] == "s":
+        if text.startswith("s"):
             return "swap", self.number(line, text[1:], 1, self.rank - 1)
-        if text[0] == "i":
+        if text.startswith("i"):
             return "invert", self.number(line, text[1:], 1, self.rank)
         raise BadLine(line)
 
@@ -621,33 +626,74 @@ def check_straight(reader):
 # ---- stabilisers
 
 
+class TreeLine(typing.NamedTuple):
+    """A line `tree`. Vertices count from 0, here and in what follows."""
+
+    line: int
+    vertex: int
+    parent: int
+    move: tuple
+
+
+class GeneratorLine(typing.NamedTuple):
+    """A line `generator`."""
+
+    line: int
+    vertex: int
+    move: tuple
+
+
+class RelatorLine(typing.NamedTuple):
+    """A line `relator`."""
+
+    line: int
+    vertex: int
+    moves: list
+    numbers: list
+
+
+class Presentation(typing.NamedTuple):
+    """The lines of an answer of `stabiliser`. Those that count generators and relators stand with what they count."""
+
+    words: list
+    side: tuple
+    level: tuple
+    tree: list
+    generators: tuple
+    relators: tuple
+
+
+def read_vertex(reader, line, text):
+    return reader.number(line, text, 1, MOST_VALUE) - 1
+
+
 def read_tree(reader):
     line, fields = reader.next("tree")
     if len(fields) != 3:
         raise BadLine(line)
-    vertex, parent = (reader.number(line, field, 1, MOST_VALUE) for field in fields[:2])
-    return line, vertex, parent, reader.move(line, fields[2])
+    vertex, parent = (read_vertex(reader, line, field) for field in fields[:2])
+    return TreeLine(line, vertex, parent, reader.move(line, fields[2]))
 
 
 def read_generator(reader):
     line, fields = reader.next("generator")
     if len(fields) != 2:
         raise BadLine(line)
-    return line, reader.number(line, fields[0], 1, MOST_VALUE), reader.move(line, fields[1])
+    return GeneratorLine(line, read_vertex(reader, line, fields[0]), reader.move(line, fields[1]))
 
 
 def read_relator(reader):
     line, fields = reader.next("relator")
-    if fields.count("=") != 1 or fields.index("=") < 2:
+    middle = fields.index("=") if "=" in fields else 0
+    if middle < 2:
         raise BadLine(line)
-    middle = fields.index("=")
-    vertex = reader.number(line, fields[0], 1, MOST_VALUE)
+    vertex = read_vertex(reader, line, fields[0])
     moves = [reader.move(line, field) for field in fields[1:middle]]
-    return line, vertex, moves, [reader.number(line, field, 1, MOST_VALUE) for field in fields[middle + 1 :]]
+    return RelatorLine(line, vertex, moves, [reader.number(line, field, 1, MOST_VALUE) for field in fields[middle + 1 :]])
 
 
 def read_counted(reader, keyword, most, read):
-    """A line with a number, and so many lines behind it."""
+    """The number of a line with a count, and so many lines behind it."""
     line, fields = reader.next(keyword)
     if len(fields) != 1:
         raise BadLine(line)
@@ -657,7 +703,7 @@ def read_counted(reader, keyword, most, read):
 
 def refuse_undecided(reader):
     """Refuses a verdict, if that is the next line."""
-    if reader.at == len(reader.kept) or reader.peek()[1][0] != "verdict":
+    if not reader.is_next("verdict"):
         return
     line, verdict = reader.next("verdict")
     if len(verdict) != 3 or verdict[0] != "undecided":
@@ -669,49 +715,75 @@ def refuse_undecided(reader):
     raise NoCertificate(line)
 
 
-class Graph:
-    """A level as a graph: its tuples are the vertices, and its edges are their level moves. Vertices count from 0."""
+def read_presentation(reader):
+    _, words = reader.tuple("tuple")
+    refuse_undecided(reader)
+    side = read_side(reader)
+    level = read_level(reader)
+    _, ats = level
+    tree = [read_tree(reader) for _ in ats[1:]]
+    generators = read_counted(reader, "generators", MOST_EDGES, read_generator)
+    relators = read_counted(reader, "relators", MOST_RELATORS, read_relator)
+    read_end(reader)
+    return Presentation(words, side, level, tree, generators, relators)
 
-    def __init__(self, rank, vertices):
+
+class Graph:
+    """A level as a graph: its tuples are the vertices, the end is the root, and edges are the level moves.
+
+    `edges` has the end of each edge, which is a vertex and a move.
+    """
+
+    def __init__(self, rank, root, vertices):
         self.rank = rank
-        self.places = {hashed(words): place for place, words in enumerate(vertices)}
+        places = {hashed(words): place for place, words in enumerate(vertices)}
+        self.root = places[hashed(root)]
+        self.others = [place for place in range(len(vertices)) if place != self.root]
         self.edges = {}
         for place, words in enumerate(vertices):
             for move, images in zip(every_move(rank), every_images(rank)):
                 taken = taken_by(words, images)
-                is_identity = move[0] == "cut" and len(move[2]) == 1
-                if length(taken) == length(words) and not is_identity:
-                    self.edges[place, move] = self.places[hashed(map(first_rotation, taken))]
+                if length(taken) == length(words) and not is_identity_cut(move):
+                    self.edges[place, move] = places[hashed(map(first_rotation, taken))]
 
 
-def check_tree(graph, root, lines):
-    """The parents of the vertices, which lead to the root."""
-    others = [place for place in range(len(graph.places)) if place != root]
-    parents = {place: (parent - 1, move) for place, (_, _, parent, move) in zip(others, lines)}
-    rooted = {root}
-    for place, (line, vertex, parent, move) in zip(others, lines):
-        if vertex - 1 != place or graph.edges.get((parent - 1, move)) != place:
-            raise Broken(line, "tree")
-        way = []
-        while place not in rooted:
-            if place in way or place not in parents:
-                raise Broken(line, "tree")
-            way.append(place)
-            place = parents[place][0]
-        rooted.update(way)
+def is_identity_cut(move):
+    return move[0] == "cut" and len(move[2]) == 1
+
+
+def way_to_root(parents, rooted, place):
+    """The vertices before the first that is known to lead to the root; None where there is none."""
+    way = set()
+    while place not in rooted:
+        if place in way or place not in parents:
+            return None
+        way.add(place)
+        place, _ = parents[place]
+    return way
+
+
+def check_tree(graph, lines):
+    """The parent of each vertex but the root, and the move from there."""
+    parents = {place: (told.parent, told.move) for place, told in zip(graph.others, lines)}
+    rooted = {graph.root}
+    for place, told in zip(graph.others, lines):
+        way = way_to_root(parents, rooted, place)
+        if told.vertex != place or graph.edges.get(parents[place]) != place or way is None:
+            raise Broken(told.line, "tree")
+        rooted |= way
     return parents
 
 
 def check_generators(graph, parents, generators):
     """The numbers of the edges that aren't in the tree."""
     count_line, lines = generators
-    off = [edge for edge, end in graph.edges.items() if parents.get(end) != edge]
-    if len(lines) != len(off):
+    off_tree = [edge for edge, end in graph.edges.items() if parents.get(end) != edge]
+    if len(lines) != len(off_tree):
         raise Broken(count_line, "generators")
-    for (line, vertex, move), edge in zip(lines, off):
-        if (vertex - 1, move) != edge:
-            raise Broken(line, "generator")
-    return {edge: number for number, edge in enumerate(off, 1)}
+    for told, edge in zip(lines, off_tree):
+        if (told.vertex, told.move) != edge:
+            raise Broken(told.line, "generator")
+    return {edge: number for number, edge in enumerate(off_tree, 1)}
 
 
 def composite(line, rank, moves):
@@ -725,40 +797,43 @@ def composite(line, rank, moves):
     return words
 
 
-def check_relator(graph, numbers, line, vertex, moves, told):
-    place = vertex - 1
-    passed = []
-    for move in moves:
+def find_round(graph, relator):
+    """The edges on the way of a relator, which leads back to its vertex."""
+    place, passed = relator.vertex, []
+    for move in relator.moves:
         edge = place, move
         if edge not in graph.edges:
-            raise Broken(line, "step")
-        passed += [numbers[edge]] if edge in numbers else []
+            raise Broken(relator.line, "step")
+        passed.append(edge)
         place = graph.edges[edge]
-    if place != vertex - 1:
-        raise Broken(line, "loop")
-    if composite(line, graph.rank, moves) != [[2 * g] for g in range(graph.rank)]:
-        raise Broken(line, "identity")
-    if passed != told:
-        raise Broken(line, "numbers")
+    if place != relator.vertex:
+        raise Broken(relator.line, "loop")
+    return passed
 
 
-def check_presented(reader):
-    _, words = reader.tuple("tuple")
-    refuse_undecided(reader)
-    side = read_side(reader)
-    level = read_level(reader)
-    tree = [read_tree(reader) for _ in level[1][1:]]
-    generators = read_counted(reader, "generators", MOST_EDGES, read_generator)
-    relators = read_counted(reader, "relators", MOST_RELATORS, read_relator)
-    read_end(reader)
-    check_side(reader.rank, words, side)
-    _, (_, end), _ = side
-    check_level(reader.rank, end, None, level)
-    graph = Graph(reader.rank, [words for _, words in level[1]])
-    parents = check_tree(graph, graph.places[hashed(end)], tree)
-    numbers = check_generators(graph, parents, generators)
-    for relator in relators[1]:
-        check_relator(graph, numbers, *relator)
+def check_relator(graph, numbers, relator):
+    passed = find_round(graph, relator)
+    if composite(relator.line, graph.rank, relator.moves) != composite(relator.line, graph.rank, []):
+        raise Broken(relator.line, "identity")
+    if relator.numbers != [numbers[edge] for edge in passed if edge in numbers]:
+        raise Broken(relator.line, "numbers")
+
+
+def check_generated(rank, told):
+    """Tries the rules of all lines but those of relators. Returns the graph, its tree, and the numbers of generators."""
+    check_side(rank, told.words, told.side)
+    _, (_, end), _ = told.side
+    check_level(rank, end, None, told.level)
+    graph = Graph(rank, end, [words for _, words in told.level[1]])
+    parents = check_tree(graph, told.tree)
+    return graph, parents, check_generators(graph, parents, told.generators)
+
+
+def check_presentation(rank, told):
+    graph, _, numbers = check_generated(rank, told)
+    _, relators = told.relators
+    for relator in relators:
+        check_relator(graph, numbers, relator)
 
 
 # ---- all answers
@@ -804,12 +879,17 @@ def check_straightened(data):
     check_straight(reader)
 
 
-def check_stabiliser(data):
-    """The same for an answer of `stabiliser`."""
+def read_stabiliser(data):
+    """The rank and the lines of an answer of `stabiliser`."""
     reader = Reader(data)
     read_heading(reader, ("stabiliser",))
     reader.rank = read_rank(reader, GREATEST_STABILISER_RANK)
-    check_presented(reader)
+    return reader.rank, read_presentation(reader)
+
+
+def check_stabiliser(data):
+    """The same for an answer of `stabiliser`."""
+    check_presentation(*read_stabiliser(data))
 
 
 def found(data, checked=check):

@@ -1,5 +1,6 @@
 #!/usr/bin/env python3
-"""Runs the checker of certificates on stored answers, on the cases of `check` in the table of runs, and on straight lists.
+"""Runs the checker of certificates on stored answers, on the cases of `check` in the table of runs, on straight lists, and on
+generators and relators of stabilisers; and the tool that writes automorphisms on the last.
 
     test_check_certificate.py
 
@@ -14,18 +15,36 @@ It ends with status 0 exactly where all of these hold:
 - on each case of `check` the checker finds what the table tells, and has the status that it tells;
 - of answers of `straighten`, right ones and altered ones, it finds what was written by hand, whether it writes out images
   or goes by matrices;
+- of answers of `stabiliser`, right ones and altered ones, it finds what was written by hand; and of those of which a line is
+  taken out, doubled, or exchanged with the next one, what follows from the keywords of these lines;
+- the reference answers the problems of the right ones, but for that of rank 4, with the same generators, and with their
+  relators among its own; what it answers is valid;
+- the list of moves of each generator fixes the tuple, followed by its inverse it is the identity, and a product of lists by
+  the numbers of a relator is the identity; lists of moves are written as automorphisms as was done by hand;
 - the greatest number of bytes is read, and one byte more is refused.
 """
 
+import contextlib
+import functools
+import io
 import sys
 
 import alike
 import altered_answers
+import altered_stabilisers
+import automorphism
+import reference
 import table
 from certificate_cases import altered, is_straightened, stored_verdict
-from check_certificate import MOST_BYTES, check_straightened, found
+from check_certificate import MOST_BYTES, act, check_stabiliser, check_straightened, composite, found, read_stabiliser
 
 # ---- tests, each with what is got and what is right
+
+
+@functools.cache
+def found_once(data):
+    """What the checker finds. Large answers stand in the table as what is told and as inputs of `check`, and take long."""
+    return found(data)
 
 
 def found_straightened(text):
@@ -43,7 +62,7 @@ def stored_answers():
 
 def stored_tests():
     for name, text in stored_answers():
-        yield name, found(text.encode())[0], stored_verdict(text)
+        yield name, found_once(text.encode())[0], stored_verdict(text)
         if is_straightened(text):
             yield f"{name}, as a straight list", found_straightened(text), "valid"
 
@@ -51,7 +70,7 @@ def stored_tests():
 def table_tests():
     for place, case in enumerate(table.cases(), 1):
         if table.asks_check(case.words):
-            yield f"case {place} of the table of runs", table.told_by(*found(case.data)), case.told
+            yield f"case {place} of the table of runs", table.told_by(*found_once(case.data)), case.told
 
 
 def straightened_tests():
@@ -66,6 +85,148 @@ def matrix_tests():
     most, alike.MOST_WRITTEN = alike.MOST_WRITTEN, 0
     yield from straightened_tests()
     alike.MOST_WRITTEN = most
+
+
+# ---- stabilisers
+
+
+def found_stabiliser(text):
+    return found(text.encode("latin1"), check_stabiliser)[0]
+
+
+def stabiliser_tests():
+    for k, answer in enumerate(altered_stabilisers.RIGHT, 1):
+        yield f"right answer {k} of stabiliser", found_stabiliser(answer), "valid"
+        yield f"right answer {k} of stabiliser, for check", found(answer.encode())[0], "refused no-certificate line 1"
+    for k, (answer, old, new, told) in enumerate(altered_stabilisers.ALTERATIONS, 1):
+        yield f"altered answer {k} of stabiliser", found_stabiliser(altered(answer, old, new)), told
+
+
+# By its keyword, what is found of a line that is exchanged with another one of the keyword: which of the two breaks a rule.
+EXCHANGED = {"flow": (1, "flow"), "at": (2, "sorted"), "tree": (1, "tree"), "generator": (1, "generator")}
+
+
+def keyword(line):
+    return line.split()[0]
+
+
+def last_alike(lines, k):
+    """The number of the last line of those that follow line k, counted from 0, and have its keyword, one after the other."""
+    others = (number for number in range(k, len(lines)) if keyword(lines[number]) != keyword(lines[k]))
+    return next(others, len(lines))
+
+
+def exchanged_verdict(lines, k):
+    """What is found where line k, counted from 0, is exchanged with the next one."""
+    first, second = keyword(lines[k]), keyword(lines[k + 1])
+    if first != second:
+        return f"refused bad-line line {k + 1}"
+    if first == "relator":
+        return "valid"
+    place, rule = EXCHANGED[first]
+    return f"invalid line {k + place} {rule}"
+
+
+def line_tests():
+    """Each line is taken out, doubled, and exchanged with the next one."""
+    for answer in altered_stabilisers.SHORT:
+        lines = answer.splitlines(keepends=True)
+        for k, line in enumerate(lines):
+            last = last_alike(lines, k)
+            without = "".join(lines[:k] + lines[k + 1 :])
+            twice = "".join(lines[:k] + [line] + lines[k:])
+            yield f"{line!r} is taken out", found_stabiliser(without), f"refused bad-line line {last}"
+            yield f"{line!r} is doubled", found_stabiliser(twice), f"refused bad-line line {last + 1}"
+        for k, (line, other) in enumerate(zip(lines, lines[1:])):
+            exchanged = "".join(lines[:k] + [other, line] + lines[k + 2 :])
+            yield f"{line!r} and {other!r} are exchanged", found_stabiliser(exchanged), exchanged_verdict(lines, k)
+
+
+def count_tests():
+    """Each relator or generator is taken out or doubled, and the number of these lines is the right one."""
+    for answer in altered_stabilisers.SHORT:
+        lines = answer.splitlines(keepends=True)
+        for counted in ("relator", "generator"):
+            places = [k for k, line in enumerate(lines) if keyword(line) == counted]
+            first = places[0]
+            told = "valid" if counted == "relator" else f"invalid line {first} generators"
+            for k in places:
+                for times in (0, 2):
+                    count = f"{counted}s {len(places) - 1 + times}\n"
+                    text = "".join([*lines[: first - 1], count, *lines[first:k], *lines[k : k + 1] * times, *lines[k + 1 :]])
+                    yield f"{lines[k]!r} stands {times} times", found_stabiliser(text), told
+
+
+def reference_tests():
+    """What the reference answers to the problem of an answer, and to one with a larger level."""
+    for answer in altered_stabilisers.RIGHT:
+        rank, words = answer.splitlines()[1:3]
+        if rank == "rank 4":
+            continue
+        told, _ = reference.told(["stabiliser"], f"{rank}\n{words}\n".encode())
+        (front, relators), (other, others) = (text.split("relators ") for text in (answer, told))
+        yield f"the reference for {words!r}", found_stabiliser(told), "valid"
+        yield f"the generators for {words!r}", other, front
+        yield f"the relators for {words!r}", set(relators.splitlines()[1:]) - set(others.splitlines()), set()
+    told, _ = reference.told(["stabiliser"], b"rank 3\ntuple abAB bcBC caCA\n")
+    yield "the reference for a large level", found_stabiliser(told), "valid"
+    for rank in ("9" * 5000, "\u0663".encode().decode("latin1"), "27", ""):
+        yield f"the rank {rank[:9]!r}", reference.told(["reduce"], f"rank {rank}\n".encode("latin1"))[1], 2
+
+
+# ---- automorphisms
+
+RULES_OF_RELATORS = ("step", "loop", "wide", "identity", "numbers")
+
+
+def list_tests():
+    """The lists of moves of generators, and their products by relators."""
+    for answer in altered_stabilisers.RIGHT:
+        rank, told = read_stabiliser(answer.encode())
+        lists = list(automorphism.generator_lists(answer.encode())[1])
+        identity = composite(0, rank, [])
+        for number, moves in enumerate(lists, 1):
+            name = f"generator {number} for {told.words!r}"
+            yield f"{name} fixes the tuple", functools.reduce(act, moves, told.words), told.words
+            yield f"{name} and its inverse", composite(0, rank, moves + automorphism.back(moves)), identity
+        for relator in told.relators[1]:
+            product = [move for number in relator.numbers for move in lists[number - 1]]
+            yield f"relator in line {relator.line} for {told.words!r}", composite(0, rank, product), identity
+    _, lists = automorphism.generator_lists(altered_stabilisers.PRIMITIVE.encode())
+    lists = dict(enumerate(lists, 1))
+    for number, text in altered_stabilisers.PRIMITIVE_LISTS.items():
+        yield f"the list of generator {number}", lists[number], automorphism.read_words(["2", *text.split()])[1]
+
+
+def run_automorphism(words, data=b""):
+    """What the tool writes, and its status."""
+    out, real = io.StringIO(), sys.stdin
+    sys.stdin = io.TextIOWrapper(io.BytesIO(data))
+    with contextlib.redirect_stdout(out), contextlib.redirect_stderr(io.StringIO()):
+        status = automorphism.main(words)
+    sys.stdin = real
+    return out.getvalue(), status
+
+
+def automorphism_tests():
+    for text, lines in altered_stabilisers.AUTOMORPHISMS:
+        yield f"automorphism {text}", run_automorphism(text.split()), ("".join(f"{line}\n" for line in lines), 0)
+    for text in altered_stabilisers.NO_LISTS:
+        yield f"automorphism {text!r}", run_automorphism(text.split(" ")), ("", 2)
+    wide = altered(altered_stabilisers.TORUS, "trace\n", f"trace {altered_stabilisers.WIDE}\n")
+    yield "a wide trace", found_stabiliser(wide), "valid"
+    yield "generators by a wide trace", run_automorphism(["--generators"], wide.encode()), ("", 2)
+    yield "a wide list", run_automorphism(["2", *altered_stabilisers.WIDE.split()]), ("", 2)
+    told, status = run_automorphism(["--generators"], altered_stabilisers.PRIMITIVE.encode())
+    last = altered_stabilisers.PRIMITIVE_LAST
+    yield "the last generator", (told[-len(last) :], status), (last, 0)
+    for k, (answer, old, new, verdict) in enumerate(altered_stabilisers.ALTERATIONS, 1):
+        has_generators = verdict.split()[-1] in ("valid", *RULES_OF_RELATORS)
+        told, status = run_automorphism(["--generators"], altered(answer, old, new).encode("latin1"))
+        yield f"the generators of altered answer {k}", (status, told != ""), (0, True) if has_generators else (2, False)
+
+
+# ---- sizes
 
 
 def size_tests():
@@ -86,13 +247,27 @@ def count_passed(tests):
     return total, passed
 
 
+OTHER_TESTS = [
+    stored_tests,
+    straightened_tests,
+    matrix_tests,
+    stabiliser_tests,
+    line_tests,
+    count_tests,
+    reference_tests,
+    list_tests,
+    automorphism_tests,
+    size_tests,
+]
+
+
 def main(words):
     if words:
         print(__doc__, file=sys.stdout if words == ["--help"] else sys.stderr)
         return 0 if words == ["--help"] else 2
     agreed = count_passed(table_tests())
     print(f"the checker agrees with {agreed[1]} of {agreed[0]} cases of check in the table of runs")
-    counts = [agreed, *map(count_passed, [stored_tests(), straightened_tests(), matrix_tests(), size_tests()])]
+    counts = [agreed, *(count_passed(tests()) for tests in OTHER_TESTS)]
     total = sum(total for total, _ in counts)
     passed = sum(passed for _, passed in counts)
     print(f"{passed} passed, {total - passed} failed")
