@@ -9,3 +9,8 @@ pub mod ChosenLists
 pub mod Listed
 pub mod Measured
 pub mod SetWords
+pub mod SetComplements
+pub mod ItemLists
+pub mod WordLists
+pub mod PairCuts
+pub mod ListedMore

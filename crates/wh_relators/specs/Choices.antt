@@ -85,24 +85,24 @@ fits n PassInversion x y = not (number y == number x) && not (number y == number
 fits n Complement x y = true
 fits n Inner x y = can_conjugate_inner x y.mult
 
--- Which cuts have to keep the length.
-abbrev pub ends_kept : TupleData → Family → Cut → Cut → Bool
-ends_kept t Cancel x y = kept t x
-ends_kept t Unite x y = kept t x && kept t (record { mult = x.mult; set = union t.rank x.set y.set })
-ends_kept t Commute x y = kept t x && kept t y
-ends_kept t Conjugate x y = kept t (back y) && kept t (record { mult = x.mult; set = union_less t.rank x.set y.set y.mult })
-ends_kept t Exchange x y = kept t x && kept t (record { mult = y.mult; set = x.set })
-ends_kept t SwapCut x y = kept t (mapped_cut t.rank (swap_letter (number x)) y)
-ends_kept t InvertCut x y = kept t (mapped_cut t.rank (invert_letter (number x)) y)
-ends_kept t SwapTwice x y = true
-ends_kept t InvertTwice x y = true
-ends_kept t Braid x y = true
-ends_kept t SwapBoth x y = true
-ends_kept t InvertBoth x y = true
-ends_kept t SwapInversion x y = true
-ends_kept t PassInversion x y = true
-ends_kept t Complement x y = kept t x
-ends_kept t Inner x y = kept t (back x)
+-- Which cuts of the tuple have to keep its length, by a test of cuts.
+abbrev pub ends_kept : ℕ → (Cut → Bool) → Family → Cut → Cut → Bool
+ends_kept n keeps Cancel x y = keeps x
+ends_kept n keeps Unite x y = keeps x && keeps (record { mult = x.mult; set = union n x.set y.set })
+ends_kept n keeps Commute x y = keeps x && keeps y
+ends_kept n keeps Conjugate x y = keeps (back y) && keeps (record { mult = x.mult; set = union_less n x.set y.set y.mult })
+ends_kept n keeps Exchange x y = keeps x && keeps (record { mult = y.mult; set = x.set })
+ends_kept n keeps SwapCut x y = keeps (mapped_cut n (swap_letter (number x)) y)
+ends_kept n keeps InvertCut x y = keeps (mapped_cut n (invert_letter (number x)) y)
+ends_kept n keeps SwapTwice x y = true
+ends_kept n keeps InvertTwice x y = true
+ends_kept n keeps Braid x y = true
+ends_kept n keeps SwapBoth x y = true
+ends_kept n keeps InvertBoth x y = true
+ends_kept n keeps SwapInversion x y = true
+ends_kept n keeps PassInversion x y = true
+ends_kept n keeps Complement x y = keeps x
+ends_kept n keeps Inner x y = keeps (back x)
 
 -- The list of a pair.
 abbrev pub word_of : ℕ → Family → Cut → Cut → List Move
@@ -123,13 +123,17 @@ word_of n PassInversion x y = pass_inversion n (number x) (number y)
 word_of n Complement x y = complement_cut n x
 word_of n Inner x y = conjugate_inner n x y.mult
 
--- Whether the list of a pair is an instance.
-abbrev pub chosen : TupleData → Family → Cut → Cut → Bool
-chosen t f x y = fits t.rank f x y && (ends_kept t f x y && is_proper (word_of t.rank f x y))
+-- Whether the list of a pair is chosen: the pair passes the test of its family, its cuts keep the length, and no identity cut stands in its list.
+abbrev pub chosen : ℕ → (Cut → Bool) → Family → Cut → Cut → Bool
+chosen n keeps f x y = fits n f x y && (ends_kept n keeps f x y && is_proper (word_of n f x y))
+
+-- The lists of a family that are chosen.
+unfoldable pub chosen_lists : ℕ → (Cut → Bool) → Family → List (List Move)
+chosen_lists n keeps f = for_each (firsts n f) (seconds n f) (chosen n keeps f) (word_of n f)
 
 -- The instances of a family.
 unfoldable pub listed : TupleData → Family → List (List Move)
-listed t f = for_each (firsts t.rank f) (seconds t.rank f) (chosen t f) (word_of t.rank f)
+listed t f = for_each (firsts t.rank f) (seconds t.rank f) (chosen t.rank (kept t) f) (word_of t.rank f)
 
 -- The instances of the seventh family.
 abbrev pub listed_permutations : TupleData → List (List Move)

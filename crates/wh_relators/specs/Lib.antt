@@ -4,4 +4,5 @@ pub mod Instances
 pub mod Kept
 pub mod Choices
 pub mod Measures
+pub mod Pairs
 pub mod Laws

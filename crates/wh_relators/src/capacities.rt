@@ -1,14 +1,12 @@
 //! Which cuts keep the length of a tuple, by capacities and degrees, without memory.
 ghost use Rattle.std.specs.Prelude.{◌≡◌, ◌*◌, ◌^◌, ◌≤◌, ◌<◌, length};
 ghost use Rattle.wh_words.specs.Limits.{most_stabiliser_rank};
-ghost use Rattle.wh_words.specs.Tuples.{TupleData};
 ghost use Rattle.wh_words.specs.Moves.{IsCut};
 ghost use Rattle.wh_words.specs.Flows.{degree};
 ghost use Rattle.wh_flow.specs.Nets.{IsNet};
 ghost use Rattle.wh_flow.specs.Tables.{cell};
 ghost use Rattle.wh_graph.specs.CapacityTables.{HasTable, set_capacity};
-ghost use Rattle.wh_relators.specs.Kept as spec;
-ghost use Rattle.wh_relators.specs.Measures.{AreCapacities};
+ghost use Rattle.wh_relators.specs.Measures.{AreCapacities, told};
 
 use crate::cut::Cut;
 use wh_flow::Net;
@@ -79,7 +77,7 @@ impl Capacities {
         requires sets { 2 ^ (2 * self.now.rank) ≤ length self.now.sets }
         requires degrees { 2 * self.now.rank ≤ length self.now.degrees }
         requires cut { IsCut self.now.rank x.mult x.set }
-        ensures { (t : TupleData) → AreCapacities t self.now → result ≡ spec.kept t x }
+        ensures { result ≡ told self.now x }
     {
         self.sets[x.set.bits() as usize] == self.degrees[x.mult.index() as usize]
     }

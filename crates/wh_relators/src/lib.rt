@@ -2,7 +2,16 @@
 #![tactic(auto)]
 
 mod capacities;
+mod counting;
 mod cut;
+mod ends;
 mod family;
+mod items;
 pub mod laws;
+mod listing;
 mod mask_tests;
+mod pair_tests;
+mod words;
+
+pub use counting::count;
+pub use listing::instances;

@@ -1,0 +1,7 @@
+use Rattle.wh_words.specs.LetterSets.{in_set}
+use Rattle.wh_words.specs.Images.{invert_letter}
+use Rattle.wh_relators.proofs.SetComplements.{Lacks}
+use Rattle.wh_relators.proofs.mask_tests.invert_letters.Given as goal
+
+abbrev pub invariant-loop-index : goal.invariant-loop-index
+invariant-loop-index l = Lacks (λ x. in_set l.set (invert_letter l.k x)) l.index l.rest
