@@ -7,3 +7,6 @@ pub mod WayNumbers
 pub mod ListedGenerators
 pub mod RelatorLists
 pub mod Words
+pub mod LevelRelators
+pub mod OwnStabilisers
+pub mod RelatorWords

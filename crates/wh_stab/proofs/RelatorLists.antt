@@ -1,6 +1,6 @@
 -- Relators, one way and one vertex after another.
 use Rattle.std.proofs.Common.{◌≡◌, ℕ, ◌+◌, ◌≤◌, List, [], ◌∷◌, ◌++◌, length, map, reverse, drop, Some, slice_get, refl, sym, ap, ◌∙◌, subst, arith, append-nil, append_assoc}
-use Rattle.std.proofs.lemmas.List.{reverse-append, reverse-reverse, map-append, drop_more, drop_all}
+use Rattle.std.proofs.lemmas.List.{length-map, length-append, reverse-append, reverse-reverse, map-append, drop_more, drop_all}
 use Rattle.std.proofs.lemmas.List.Elements.{All-nil, All-cons, All-append, All-head, All-tail}
 use Rattle.std.proofs.lemmas.Option.{slice_get_within, get_or_from_slice_get}
 use Rattle.std.specs.List.{All}
@@ -9,7 +9,7 @@ use Rattle.wh_words.specs.Moves.{Move}
 use Rattle.wh_relators.specs.Instances.{instances_at}
 use Rattle.wh_stab.specs.declared.stab.Relator.{Relator}
 use Rattle.wh_stab.specs.Presentations.{PresentationData, AreNumbers}
-use Rattle.wh_stab.specs.Relators.{Way, ways_from, RelatorData, relator_of, IsSpelled, way_of, AreRelators, AreFirstRelators, AddsRelators}
+use Rattle.wh_stab.specs.Relators.{Way, ways_from, relator_count, RelatorData, relator_of, IsSpelled, way_of, AreRelators, AreFirstRelators, AddsRelators}
 
 abbrev from_place : ℕ → List Move → Way
 from_place at ms = (at, ms)
@@ -77,3 +77,12 @@ module _ (p : PresentationData) where
     ways = sym (append-nil (map way_of rs)) ∙ (ap (λ (x : List TupleData). map way_of rs ++ ways_from n x) (sym (drop_all n p.vertices all)) ∙ first.ways);
     spelled = first.spelled;
   }
+
+  -- The first relators are no more than all.
+  pub first_few : (n : ℕ) (rs : List Relator) → AreFirstRelators p n (map relator_of rs) → length rs ≤ relator_count p.vertices
+  first_few n rs first =
+      omega (arith, length-map rs relator_of, length-map (map relator_of rs) way_of, length-append (map way_of (map relator_of rs)) (ways_from n (drop n p.vertices)), ap length first.ways)
+
+  -- All relators are as many as there are instances.
+  pub all_few : (rs : List Relator) → AreRelators p (map relator_of rs) → relator_count p.vertices ≡ length rs
+  all_few rs are = omega (arith, length-map rs relator_of, length-map (map relator_of rs) way_of, ap length are.ways)

@@ -1,5 +1,6 @@
 -- What generators and relators tell, as statements that contracts name, after McCool 1975.
-use Rattle.std.specs.Prelude.{◌≡◌, ℕ, List, map}
+use Rattle.std.specs.Prelude.{◌≡◌, ℕ, ◌≤◌, List, map}
+use Rattle.wh_words.specs.Limits.{most_rank}
 use Rattle.std.specs.List.{All}
 use Rattle.wh_words.specs.Words.{free_reduction}
 use Rattle.wh_words.specs.Tuples.{TupleData}
@@ -12,6 +13,10 @@ use Rattle.wh_peak.specs.Relations.{IsTrivial}
 use Rattle.wh_nielsen.specs.Automorphisms.{IsAutomorphism, act_by}
 use Rattle.wh_level.specs.Trees.{LevelData, IsClosedLevel}
 use Rattle.wh_stab.specs.SpanningTrees.{IsSpanningTree}
+use Rattle.wh_stab.specs.declared.stab.Stab.{Stab}
+use Rattle.wh_stab.specs.GeneratorLists.{CanList, presentation_of}
+use Rattle.wh_stab.specs.Relators.{relator_of}
+use Rattle.wh_stab.specs.Stabilisers.{IsStabiliser}
 use Rattle.wh_stab.specs.Presentations.{PresentationData, AreGenerators, IsPresented, generator_moves, word_moves, IsNumber, AreNumbers}
 
 -- ---- generators
@@ -46,3 +51,13 @@ WaysRoundTellRelators = (t root v : TupleData) (p : PresentationData) (ms : List
 -- A way has one list of numbers.
 abbrev pub NumbersAreUnique : Type 0
 NumbersAreUnique = (t root v : TupleData) (p : PresentationData) (ms : List Move) (ks js : List ℕ) → IsPresented t root p → AreNumbers p v ms ks → AreNumbers p v ms js → ks ≡ js
+
+-- ---- what is answered
+-- Each generator of a stabiliser that is answered can be written as a list of moves.
+abbrev pub GeneratorsCanBeListed : Type 0
+GeneratorsCanBeListed = (t : TupleData) (l : LevelData) (s : Stab) (k : ℕ) → IsStabiliser t l s → IsNumber (presentation_of s) k → CanList (presentation_of s) k
+
+-- The moves of each relator that is answered have the identity as their composite, and so has the word of its numbers.
+abbrev pub RelatorsAreTrivial : Type 0
+RelatorsAreTrivial = (t : TupleData) (l : LevelData) (s : Stab) → t.rank ≤ most_rank → IsStabiliser t l s →
+    All (λ r. IsTrivial t.rank r.moves × All (IsNumber (presentation_of s)) r.word × IsTrivial t.rank (word_moves (presentation_of s) r.word)) (map relator_of s.relators)

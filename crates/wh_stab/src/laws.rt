@@ -1,5 +1,5 @@
 //! Laws of stabilisers. Each is the contract of a function that does nothing.
-ghost use Rattle.wh_stab.specs.Laws.{FirstWalksSpan, GeneratorsFixTheTuple, GeneratorsGenerateTheStabiliser, AutomorphismsThatFixAreWords, GeneratorsAreUnique, WaysRoundTellRelators, NumbersAreUnique};
+ghost use Rattle.wh_stab.specs.Laws.{FirstWalksSpan, GeneratorsFixTheTuple, GeneratorsGenerateTheStabiliser, AutomorphismsThatFixAreWords, GeneratorsAreUnique, WaysRoundTellRelators, NumbersAreUnique, GeneratorsCanBeListed, RelatorsAreTrivial};
 
 /// The edges of a level that are off a tree generate what fixes a tuple (McCool 1975).
 pub fn generators()
@@ -14,4 +14,10 @@ pub fn generators()
 pub fn relators()
     ensures tell { WaysRoundTellRelators }
     ensures unique { NumbersAreUnique }
+{}
+
+/// What is answered of a stabiliser: its generators can be written as lists of moves, and its relators are the identity.
+pub fn answers()
+    ensures lists { GeneratorsCanBeListed }
+    ensures trivial { RelatorsAreTrivial }
 {}
