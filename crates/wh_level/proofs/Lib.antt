@@ -15,3 +15,4 @@ pub mod OtherPlaces
 pub mod LevelEdges
 pub mod EdgeNumbers
 pub mod Paths
+pub mod OneLevel

@@ -3,7 +3,7 @@ use Rattle.std.specs.Prelude.{◌≡◌, ℕ, ◌≤◌, List, length, ◌↔◌
 use Rattle.wh_words.specs.Tuples.{TupleData, IsTuple}
 use Rattle.wh_words.specs.Moves.{Move}
 use Rattle.wh_words.specs.Levels.{InLevel, IsReached, IsLevel, IsFirstWalk, HasMoreThan}
-use Rattle.wh_level.specs.Trees.{LevelData}
+use Rattle.wh_level.specs.Trees.{LevelData, IsClosedLevel}
 use Rattle.wh_level.specs.LevelEdges.{AreEdges}
 use Rattle.wh_level.specs.declared.edge_list.Edge.{Edge}
 
@@ -22,6 +22,10 @@ LimitIsExact = (root : TupleData) (ts : List TupleData) (limit : ℕ) → IsLeve
 -- There is one first walk from a root to a tuple.
 abbrev pub FirstWalkIsUnique : Type 0
 FirstWalkIsUnique = (root t : TupleData) (ms ns : List Move) → IsFirstWalk root t ms → IsFirstWalk root t ns → ms ≡ ns
+
+-- A root has one level with the parents of its first walks.
+abbrev pub ClosedLevelIsUnique : Type 0
+ClosedLevelIsUnique = (l m : LevelData) → IsClosedLevel l → IsClosedLevel m → l.root ≡ m.root → l ≡ m
 
 -- A level has one list of edges.
 abbrev pub EdgesAreUnique : Type 0
