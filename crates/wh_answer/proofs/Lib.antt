@@ -2,6 +2,8 @@ pub mod Sides
 pub mod Inverses
 pub mod Verdicts
 pub mod OneSide
+pub mod Branches
+pub mod OneStabiliser
 pub mod OneAnswer
 pub mod ValidWays
 pub mod ValidSides
@@ -13,3 +15,5 @@ pub mod WalkLengths
 pub mod OwnParts
 pub mod TextLengths
 pub mod Readable
+pub mod StabiliserParts
+pub mod TrueStabilisers

@@ -15,7 +15,7 @@ use Rattle.wh_flow.specs.Tables.{cell}
 use Rattle.wh_reduce.proofs.Certificates.{flows_flat}
 use Rattle.wh_data.specs.AnswerData.{SideData}
 use Rattle.wh_data.specs.AnswerData.VerdictData.{yes, no_length, no_level, undecided}
-use Rattle.wh_data.specs.AnswerData.AnswerData.{reduce, decide, straighten}
+use Rattle.wh_data.specs.AnswerData.AnswerData.{reduce, decide, straighten, stabiliser}
 use Rattle.wh_data.specs.Numberings.{side_lines}
 use Rattle.wh_cert.specs.Demands.{Demand, Placed, fit_on_the_way, moves_carry, lengths_differ, lengths_agree, rises, has_height, is_absent, is_closed, has_root, has_flow, trace_ends, IsGeneratorFlow, ImagesAreIn, IsMet, tuple_at, asked_below, trace_asked, flow_asked, flows_asked, side_asked, sides_asked, at_asked, level_asked}
 use Rattle.wh_cert.specs.Checks.{AreMet}
@@ -138,3 +138,4 @@ valid_shows heads (decide s t (no_level a b ts)) one are moves met =
     (shown.0, shown.1, shown.2, off, none_off_level s t a.end b.end a.trace b.trace are.0 are.1 (sym one.0) are.2 shown.0 shown.1 off)
 valid_shows heads (decide s t (undecided bound)) one are moves met = tt
 valid_shows heads (straighten t given ms end) one are moves met = tt
+valid_shows heads (stabiliser t v) one are moves met = tt

@@ -15,7 +15,7 @@ use Rattle.wh_data.specs.declared.answer.Bound.TheVariants.{Length, Level}
 use Rattle.wh_data.specs.declared.answer.Verdict.{Verdict}
 use Rattle.wh_data.specs.declared.answer.Verdict.TheVariants.{Yes, NoLength, NoLevel, Undecided}
 use Rattle.wh_data.specs.declared.answer.Answer.TheVariants as answers
-use Rattle.wh_data.specs.ProblemData.ProblemData.{reduce, decide, straighten}
+use Rattle.wh_data.specs.ProblemData.ProblemData.{reduce, decide, straighten, stabiliser}
 use Rattle.wh_data.specs.AnswerData.{VerdictData, plains, side_of, verdict_of}
 use Rattle.wh_fields.specs.TupleFields.{words_row}
 use Rattle.wh_lines.specs.Rows.{Row, number_row, rows_text}
@@ -23,17 +23,13 @@ use Rattle.wh_data.specs.declared.command.Command.TheVariants as commands
 use Rattle.wh_data.specs.Commands.{heading_row}
 use Rattle.wh_data.specs.AnswerTexts.{side_rows, level_rows, verdict_row, verdict_rows, done_row, answer_text}
 use Rattle.wh_data.specs.Statuses.{verdict_status}
-use Rattle.wh_answer.specs.Answers.{IsSideOf, EndApart, Decides}
+use Rattle.wh_answer.specs.Sides.{IsSideOf}
+use Rattle.wh_answer.specs.Answers.{EndApart, Decides}
 use Rattle.wh_answer.specs.Answers.Decides.{other_lengths, one_end, too_long, too_many, joined, off_level}
 use Rattle.wh_answer.specs.Laws.{AnswerIsUnique}
+use Rattle.wh_answer.proofs.Branches.{branch}
 use Rattle.wh_answer.proofs.OneSide.{trace_one, side_one}
-
--- ---- one of two cases
-branch : {T P Q : Type 0} (A B : T → Type 0) → (P → Q → ⊥) → ((x y : T) → P → A x → A y → x ≡ y) → ((x y : T) → Q → B x → B y → x ≡ y) → (x y : T) → ((P × A x) ⊎ (Q × B x)) → ((P × A y) ⊎ (Q × B y)) → x ≡ y
-branch A B clash left right x y (inl a) (inl b) = left x y a.0 a.1 b.1
-branch A B clash left right x y (inl a) (inr b) = absurd (clash a.0 b.0)
-branch A B clash left right x y (inr a) (inl b) = absurd (clash b.0 a.0)
-branch A B clash left right x y (inr a) (inr b) = right x y a.0 a.1 b.1
+use Rattle.wh_answer.proofs.OneStabiliser.{stab_told, stab_one}
 
 -- ---- the verdict
 -- Rows and a status.
@@ -204,17 +200,24 @@ reduce_text t rows = rows_text (heading_row commands.Reduce ∷ number_row (code
 decide_text : TupleData → TupleData → List Row → List ℕ
 decide_text s t rows = rows_text (heading_row commands.Decide ∷ number_row (codes "rank") s.rank ∷ words_row (codes "first") s.words ∷ words_row (codes "second") t.words ∷ rows ++ done_row ∷ [])
 
+stab_text : TupleData → List Row → List ℕ
+stab_text t rows = rows_text (heading_row commands.Stabiliser ∷ number_row (codes "rank") t.rank ∷ words_row (codes "tuple") t.words ∷ rows ++ done_row ∷ [])
+
 pub answer_one : AnswerIsUnique
-unfolding answer_text reduce_text decide_text
+unfolding answer_text reduce_text decide_text stab_text
 answer_one limit (reduce t) (answers.Reduce u a) (answers.Reduce v b) is i j = ((λ _. ap₂ reduce_text (i.0 ∙ sym j.0) (side_one t a b is.0 is.2 i.1 j.1)), refl)
 answer_one limit (reduce t) (answers.Reduce u a) (answers.Decide x y v) is i j = absurd j
 answer_one limit (reduce t) (answers.Reduce u a) (answers.Straighten x g ms e) is i j = absurd j
+answer_one limit (reduce t) (answers.Reduce u a) (answers.Stabiliser x v) is i j = absurd j
 answer_one limit (reduce t) (answers.Decide x y v) b is i j = absurd i
 answer_one limit (reduce t) (answers.Straighten x g ms e) b is i j = absurd i
+answer_one limit (reduce t) (answers.Stabiliser x v) b is i j = absurd i
 answer_one limit (decide s t) (answers.Reduce u a) b is i j = absurd i
 answer_one limit (decide s t) (answers.Straighten x g ms e) b is i j = absurd i
+answer_one limit (decide s t) (answers.Stabiliser x v) b is i j = absurd i
 answer_one limit (decide s t) (answers.Decide x y v) (answers.Reduce u a) is i j = absurd j
 answer_one limit (decide s t) (answers.Decide x y v) (answers.Straighten p g ms e) is i j = absurd j
+answer_one limit (decide s t) (answers.Decide x y v) (answers.Stabiliser p w) is i j = absurd j
 answer_one limit (decide s t) (answers.Decide x y v) (answers.Decide p q r) is i j =
     let one : told v ≡ told r = verdict_one limit s t v r is.0 (omega (arith, is.4)) is.1 (omega (arith, is.2, is.4)) i.2.0 j.2.0 in (
       (λ _. ap₂ (λ a b. decide_text a b (rows_told (verdict_of v))) (i.0 ∙ sym j.0) (i.1 ∙ sym j.1) ∙ ap (λ (k : Told). decide_text p.plain q.plain k.0) one),
@@ -225,3 +228,16 @@ answer_one limit (straighten t list) (answers.Decide x y v) b is i j = absurd i
 answer_one limit (straighten t list) (answers.Straighten x g ms e) (answers.Reduce u a) is i j = absurd j
 answer_one limit (straighten t list) (answers.Straighten x g ms e) (answers.Decide p q r) is i j = absurd j
 answer_one limit (straighten t list) (answers.Straighten x g ms e) (answers.Straighten y h ns f) is i j = ((λ one. absurd one), refl)
+answer_one limit (straighten t list) (answers.Straighten x g ms e) (answers.Stabiliser y w) is i j = absurd j
+answer_one limit (straighten t list) (answers.Stabiliser x v) b is i j = absurd i
+answer_one limit (stabiliser t) (answers.Reduce u a) b is i j = absurd i
+answer_one limit (stabiliser t) (answers.Decide x y v) b is i j = absurd i
+answer_one limit (stabiliser t) (answers.Straighten x g ms e) b is i j = absurd i
+answer_one limit (stabiliser t) (answers.Stabiliser x v) (answers.Reduce u a) is i j = absurd j
+answer_one limit (stabiliser t) (answers.Stabiliser x v) (answers.Decide y z w) is i j = absurd j
+answer_one limit (stabiliser t) (answers.Stabiliser x v) (answers.Straighten y g ms e) is i j = absurd j
+answer_one limit (stabiliser t) (answers.Stabiliser x v) (answers.Stabiliser y w) is i j =
+    let one : stab_told v ≡ stab_told w = stab_one limit t v w is.0 (omega (arith, is.2)) i.1 j.1 in (
+      (λ _. ap₂ stab_text (i.0 ∙ sym j.0) (ap (λ (k : Told). k.0) one)),
+      ap (λ (k : Told). k.1) one,
+    )

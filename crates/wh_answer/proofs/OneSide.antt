@@ -19,7 +19,7 @@ use Rattle.wh_fields.specs.TupleFields.{words_row}
 use Rattle.wh_fields.specs.MoveFields.{moves_row}
 use Rattle.wh_data.specs.AnswerData.{side_of}
 use Rattle.wh_data.specs.AnswerTexts.{side_rows}
-use Rattle.wh_answer.specs.Answers.{IsSideOf}
+use Rattle.wh_answer.specs.Sides.{IsSideOf}
 use Rattle.wh_answer.proofs.Verdicts.{trace_rank}
 
 -- ---- the rows of flows

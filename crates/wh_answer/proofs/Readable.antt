@@ -15,7 +15,7 @@ use Rattle.wh_data.specs.declared.answer.Side.{Side}
 use Rattle.wh_data.specs.declared.answer.Verdict.{Verdict}
 use Rattle.wh_data.specs.declared.answer.Verdict.TheVariants.{Yes}
 use Rattle.wh_data.specs.declared.answer.Answer.TheVariants as answers
-use Rattle.wh_data.specs.ProblemData.ProblemData.{reduce, decide, straighten}
+use Rattle.wh_data.specs.ProblemData.ProblemData.{reduce, decide, straighten, stabiliser}
 use Rattle.wh_lines.specs.Rows.{row_text, rows_text, number_row}
 use Rattle.wh_lines.proofs.PrintedRows.{rows_append}
 use Rattle.wh_fields.specs.TupleFields.{words_row, IsTupleOf}
@@ -28,7 +28,8 @@ use Rattle.wh_data.specs.AnswerData.AnswerData.{reduce as reduced, decide as dec
 use Rattle.wh_fields.specs.MoveFields.{moves_row, IsMoveOf}
 use Rattle.wh_fields.specs.FlowFields.{IsFlowOf}
 use Rattle.wh_data.specs.AnswerParts.{IsVerdictOf, IsSideOf as IsSideOfRank}
-use Rattle.wh_answer.specs.Answers.{IsSideOf, Decides}
+use Rattle.wh_answer.specs.Sides.{IsSideOf}
+use Rattle.wh_answer.specs.Answers.{Decides}
 use Rattle.wh_answer.specs.Answers.Decides.{other_lengths, one_end, too_long, too_many, joined, off_level}
 use Rattle.wh_answer.specs.Certified.{IsDecided, IsReadable}
 use Rattle.wh_answer.specs.Laws.{IsProblem, AnswersAreReadable}
@@ -212,6 +213,13 @@ pub answers_readable : AnswersAreReadable
 answers_readable limit (reduce t) (answers.Reduce u s) h is own x = reduce_readable u s (subst (λ d. IsProblem (reduce d)) (sym own.0) is) (subst (λ d. IsSideOf d s) (sym own.0) own.1)
 answers_readable limit (reduce t) (answers.Decide a b v) h is own x = absurd own
 answers_readable limit (reduce t) (answers.Straighten u g ms e) h is own x = absurd own
+answers_readable limit (reduce t) (answers.Stabiliser u v) h is own x = absurd own
+answers_readable limit (decide s t) (answers.Stabiliser u v) h is own x = absurd own
+answers_readable limit (straighten t list) (answers.Stabiliser u v) h is own x = absurd own
+answers_readable limit (stabiliser t) (answers.Reduce u c) h is own x = absurd own
+answers_readable limit (stabiliser t) (answers.Decide a b v) h is own x = absurd own
+answers_readable limit (stabiliser t) (answers.Straighten u g ms e) h is own x = absurd own
+answers_readable limit (stabiliser t) (answers.Stabiliser u v) h is own x = absurd x
 answers_readable limit (decide s t) (answers.Reduce u c) h is own x = absurd own
 answers_readable limit (decide s t) (answers.Straighten u g ms e) h is own x = absurd own
 answers_readable limit (straighten t list) (answers.Reduce u c) h is own x = absurd own

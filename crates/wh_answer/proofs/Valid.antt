@@ -8,7 +8,7 @@ use Rattle.wh_data.specs.declared.answer.Verdict.{Verdict}
 use Rattle.wh_data.specs.declared.answer.Answer.{Answer}
 use Rattle.wh_data.specs.declared.answer.Answer.TheVariants as answers
 use Rattle.wh_data.specs.ProblemData.{ProblemData}
-use Rattle.wh_data.specs.ProblemData.ProblemData.{reduce as to_reduce, decide as to_decide, straighten as to_straighten}
+use Rattle.wh_data.specs.ProblemData.ProblemData.{reduce as to_reduce, decide as to_decide, straighten as to_straighten, stabiliser as to_stabiliser}
 use Rattle.wh_data.specs.AnswerData.{plains, side_of, verdict_of, answer_of}
 use Rattle.wh_data.specs.AnswerData.VerdictData.{yes}
 use Rattle.wh_data.specs.AnswerData.AnswerData.{decide}
@@ -44,6 +44,13 @@ answers_valid limit (to_reduce t) (answers.Reduce tuple side) is own decided =
     subst (λ u. AreMet (side_asked 3 (heads_from 0 side.flows) u (side_of side))) (sym own.0) (side_met 3 t side is.0 is.2 own.1)
 answers_valid limit (to_reduce t) (answers.Decide first second verdict) is own decided = absurd own
 answers_valid limit (to_reduce t) (answers.Straighten tuple given ms end) is own decided = absurd own
+answers_valid limit (to_reduce t) (answers.Stabiliser tuple verdict) is own decided = absurd own
+answers_valid limit (to_decide s t) (answers.Stabiliser tuple verdict) is own decided = absurd own
+answers_valid limit (to_straighten t list) (answers.Stabiliser tuple verdict) is own decided = absurd own
+answers_valid limit (to_stabiliser t) (answers.Reduce tuple side) is own decided = absurd own
+answers_valid limit (to_stabiliser t) (answers.Decide first second verdict) is own decided = absurd own
+answers_valid limit (to_stabiliser t) (answers.Straighten tuple given ms end) is own decided = absurd own
+answers_valid limit (to_stabiliser t) (answers.Stabiliser tuple verdict) is own decided = absurd decided
 answers_valid limit (to_decide s t) (answers.Reduce tuple side) is own decided = absurd own
 answers_valid limit (to_decide s t) (answers.Straighten tuple given ms end) is own decided = absurd own
 answers_valid limit (to_straighten t list) (answers.Reduce tuple side) is own decided = absurd own

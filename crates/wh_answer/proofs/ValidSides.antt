@@ -10,7 +10,7 @@ use Rattle.wh_data.specs.Numberings.{side_lines}
 use Rattle.wh_cert.specs.Demands.{Demand, Placed, fit_on_the_way, trace_ends, has_flow, IsGeneratorFlow, IsMet, asked_below, trace_asked, flow_asked, flows_asked, side_asked, sides_asked}
 use Rattle.wh_cert.specs.Checks.{AreMet}
 use Rattle.wh_cert.proofs.Judging.{one_met, both_met, none_asked, next_asked}
-use Rattle.wh_answer.specs.Answers.{IsSideOf}
+use Rattle.wh_answer.specs.Sides.{IsSideOf}
 use Rattle.wh_answer.proofs.Inverses.{trace_leads}
 use Rattle.wh_answer.proofs.Verdicts.{trace_rank}
 use Rattle.wh_answer.proofs.ValidWays.{trace_fits}

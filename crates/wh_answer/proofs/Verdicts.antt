@@ -15,7 +15,8 @@ use Rattle.wh_level.specs.Trees.{LevelData, IsClosedLevel}
 use Rattle.wh_data.specs.declared.answer.Side.{Side}
 use Rattle.wh_data.specs.declared.answer.Bound.TheVariants.{Length, Level}
 use Rattle.wh_data.specs.declared.answer.Verdict.TheVariants.{Yes, NoLength, NoLevel, Undecided}
-use Rattle.wh_answer.specs.Answers.{IsSideOf, EndApart, IsVerdict}
+use Rattle.wh_answer.specs.Sides.{IsSideOf}
+use Rattle.wh_answer.specs.Answers.{EndApart, IsVerdict}
 use Rattle.wh_answer.specs.Answers.Decides.{other_lengths, one_end, too_long, too_many, joined, off_level}
 use Rattle.wh_answer.specs.Traced.{AreTraced, AreApart}
 use Rattle.wh_answer.specs.Findings.{Finds}

@@ -1,6 +1,6 @@
 -- The answer to a problem, after Lyndon and Schupp, I.4.
 use Rattle.std.specs.Prelude.{◌≡◌, ◌≢◌, ℕ, ◌<◌, ◌≤◌, List, ◌++◌, length, map}
-use Rattle.wh_words.specs.Limits.{most_level_rank, most_level_length}
+use Rattle.wh_words.specs.Limits.{most_level_rank, most_level_length, most_stabiliser_rank}
 use Rattle.wh_words.specs.Tuples.{TupleData, Tuple, tuple_length}
 use Rattle.wh_words.specs.Moves.{Move}
 use Rattle.wh_words.specs.MoveLists.{inverse_list}
@@ -9,7 +9,6 @@ use Rattle.wh_words.specs.CapacityTraces.{IsCapacityTrace}
 use Rattle.wh_words.specs.Levels.{InLevel, IsLevel, IsFirstWalk, HasMoreThan}
 use Rattle.wh_moves.specs.Acts.{FitsOnTheWay}
 use Rattle.wh_peak.specs.Straightness.{IsStraightened}
-use Rattle.wh_reduce.specs.FlowLists.{AreFlows}
 use Rattle.wh_data.specs.declared.answer.Side.{Side}
 use Rattle.wh_data.specs.declared.answer.Bound.TheVariants.{Length, Level}
 use Rattle.wh_data.specs.declared.answer.Verdict.{Verdict}
@@ -17,12 +16,9 @@ use Rattle.wh_data.specs.declared.answer.Verdict.TheVariants.{Yes, NoLength, NoL
 use Rattle.wh_data.specs.declared.answer.Answer.{Answer}
 use Rattle.wh_data.specs.declared.answer.Answer.TheVariants as answers
 use Rattle.wh_data.specs.ProblemData.{ProblemData}
-use Rattle.wh_data.specs.ProblemData.ProblemData.{reduce, decide, straighten}
-
--- The side of a tuple: its trace, the end of that, and the flows of the generators of the end.
-pub record IsSideOf (t : TupleData) (side : Side) : Type 0 where
-  pub trace : IsCapacityTrace t side.trace side.end.plain
-  pub flows : AreFlows side.end.plain side.flows
+use Rattle.wh_data.specs.ProblemData.ProblemData.{reduce, decide, straighten, stabiliser}
+use Rattle.wh_answer.specs.Sides.{IsSideOf}
+use Rattle.wh_answer.specs.StabiliserAnswers.{Presents}
 
 -- The traces of two tuples end at different tuples of one length.
 pub record EndApart (s t : TupleData) (ms ns : List Move) (u v : TupleData) : Type 0 where
@@ -59,20 +55,28 @@ pub record Straightens (t : TupleData) (given ms : List Move) (end : TupleData) 
   pub straightened : IsStraightened t given ms
   pub leads : act_all t given ≡ end
 
--- The answer is one to the problem: for a tuple that is to be reduced, the tuple itself and its side; for two tuples, themselves and the verdict on them; and for a list of moves from a tuple, both of them, straight moves in the place of the list, and the end.
+-- The answer is one to the problem: for a tuple that is to be reduced, the tuple itself and its side; for two tuples, themselves and the verdict on them; for a list of moves from a tuple, both of them, straight moves in the place of the list, and the end; and for the stabiliser of a tuple, the tuple itself and what is found of it.
 abbrev pub Answers : ℕ → ProblemData → Answer → Type 0
 Answers limit (reduce t) (answers.Reduce tuple side) = (tuple.plain ≡ t) × IsSideOf t side
 Answers limit (reduce t) (answers.Decide first second verdict) = ⊥
 Answers limit (reduce t) (answers.Straighten tuple given ms end) = ⊥
+Answers limit (reduce t) (answers.Stabiliser tuple verdict) = ⊥
 Answers limit (decide s t) (answers.Reduce tuple side) = ⊥
 Answers limit (decide s t) (answers.Decide first second verdict) = (first.plain ≡ s) × (second.plain ≡ t) × IsVerdict limit s t verdict
 Answers limit (decide s t) (answers.Straighten tuple given ms end) = ⊥
+Answers limit (decide s t) (answers.Stabiliser tuple verdict) = ⊥
 Answers limit (straighten t list) (answers.Reduce tuple side) = ⊥
 Answers limit (straighten t list) (answers.Decide first second verdict) = ⊥
 Answers limit (straighten t list) (answers.Straighten tuple given ms end) = (tuple.plain ≡ t) × (given ≡ list) × Straightens t list ms end.plain
+Answers limit (straighten t list) (answers.Stabiliser tuple verdict) = ⊥
+Answers limit (stabiliser t) (answers.Reduce tuple side) = ⊥
+Answers limit (stabiliser t) (answers.Decide first second verdict) = ⊥
+Answers limit (stabiliser t) (answers.Straighten tuple given ms end) = ⊥
+Answers limit (stabiliser t) (answers.Stabiliser tuple verdict) = (tuple.plain ≡ t) × Presents limit t verdict
 
--- The problem can be answered by levels: it isn't one of `straighten`, and two tuples are of one rank, which is one of levels, and have equally many words.
+-- The problem can be answered by levels: it isn't one of `straighten`; two tuples are of one rank, which is one of levels, and have equally many words; and the rank of a tuple whose stabiliser is asked for is one of stabilisers.
 abbrev pub IsAnswerable : ProblemData → Type 0
 IsAnswerable (reduce t) = Unit {0}
 IsAnswerable (decide s t) = (s.rank ≡ t.rank) × (s.rank ≤ most_level_rank) × (length s.words ≡ length t.words)
 IsAnswerable (straighten t list) = ⊥
+IsAnswerable (stabiliser t) = t.rank ≤ most_stabiliser_rank

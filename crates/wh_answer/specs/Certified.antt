@@ -10,20 +10,22 @@ use Rattle.wh_words.specs.Composites.{composite}
 use Rattle.wh_peak.specs.Stabilisers.{LeadsToFlat}
 use Rattle.wh_nielsen.specs.Automorphisms.{IsAutomorphism, act_by, IsCarried}
 use Rattle.wh_data.specs.AnswerTexts.{answer_text}
-use Rattle.wh_data.specs.AnswerData.{VerdictData, AnswerData}
+use Rattle.wh_data.specs.AnswerData.{VerdictData, StabVerdictData, AnswerData}
 use Rattle.wh_data.specs.AnswerData.VerdictData.{yes, no_length, no_level, undecided}
-use Rattle.wh_data.specs.AnswerData.AnswerData.{reduce, decide, straighten}
+use Rattle.wh_data.specs.AnswerData.StabVerdictData.{done, stopped}
+use Rattle.wh_data.specs.AnswerData.AnswerData.{reduce, decide, straighten, stabiliser}
 use Rattle.wh_data.specs.Limits.{most_answer_bytes}
 use Rattle.wh_data.specs.AnswerParts.{IsCertificate, heads_of}
 use Rattle.wh_cert.specs.Demands.{asked}
 use Rattle.wh_cert.specs.Checks.{AreMet}
 
--- The answer can be checked: it isn't undecided, and it isn't one of `straighten`.
+-- The answer can be checked: it isn't undecided, and it is one of `reduce` or `decide`.
 abbrev pub IsDecided : AnswerData → Type 0
 IsDecided (reduce t s) = Unit {0}
 IsDecided (decide s t (undecided bound)) = ⊥
 IsDecided (decide s t v) = Unit {0}
 IsDecided (straighten t given ms end) = ⊥
+IsDecided (stabiliser t v) = ⊥
 
 -- The text of the answer is a certificate that isn't too long.
 pub record IsReadable (a : AnswerData) : Type 0 where
@@ -42,11 +44,17 @@ EndsAreTuples (no_length a b) = IsTuple a.end × IsTuple b.end
 EndsAreTuples (no_level a b ts) = IsTuple a.end × IsTuple b.end
 EndsAreTuples (undecided bound) = Unit {0}
 
+-- The end of the side of a tuple is a tuple.
+abbrev pub EndIsTuple : StabVerdictData → Type 0
+EndIsTuple (done s p) = IsTuple s.end
+EndIsTuple (stopped bound) = Unit {0}
+
 -- The tuples of an answer and the ends of its sides are tuples, and the rank of its first tuple is at most 26.
 abbrev pub HasTuples : AnswerData → Type 0
 HasTuples (reduce t s) = IsTuple t × (t.rank ≤ most_rank) × IsTuple s.end
 HasTuples (decide s t v) = IsTuple s × IsTuple t × (s.rank ≤ most_rank) × EndsAreTuples v
 HasTuples (straighten t given ms end) = IsTuple t × (t.rank ≤ most_rank) × IsTuple end
+HasTuples (stabiliser t v) = IsTuple t × (t.rank ≤ most_rank) × EndIsTuple v
 
 -- The moves of a verdict, those of its sides among them, are moves of rank n.
 abbrev pub HasMovesOfRank : ℕ → VerdictData → Type 0
@@ -55,11 +63,17 @@ HasMovesOfRank n (no_length a b) = AreMovesOfRank n a.trace × AreMovesOfRank n 
 HasMovesOfRank n (no_level a b ts) = AreMovesOfRank n a.trace × AreMovesOfRank n b.trace
 HasMovesOfRank n (undecided bound) = Unit {0}
 
+-- The moves of a trace are moves of rank n.
+abbrev pub HasTraceOfRank : ℕ → StabVerdictData → Type 0
+HasTraceOfRank n (done s p) = AreMovesOfRank n s.trace
+HasTraceOfRank n (stopped bound) = Unit {0}
+
 -- The moves of an answer are moves of its rank.
 abbrev pub HasMoves : AnswerData → Type 0
 HasMoves (reduce t s) = AreMovesOfRank t.rank s.trace
 HasMoves (decide s t v) = HasMovesOfRank s.rank v
 HasMoves (straighten t given ms end) = AreMovesOfRank t.rank given × AreMovesOfRank t.rank ms
+HasMoves (stabiliser t v) = HasTraceOfRank t.rank v
 
 -- No automorphism takes the first tuple to one that is shorter than the second.
 abbrev pub IsShortestOf : TupleData → TupleData → Type 0
@@ -79,3 +93,4 @@ Shows (decide s t (no_length a b)) = LeadsToFlat s a.trace a.end × LeadsToFlat 
 Shows (decide s t (no_level a b ts)) = LeadsToFlat s a.trace a.end × LeadsToFlat t b.trace b.end × (tuple_length a.end ≡ tuple_length b.end) × ¬ (InLevel a.end b.end) × ¬ (IsCarried s t)
 Shows (decide s t (undecided bound)) = Unit {0}
 Shows (straighten t given ms end) = Unit {0}
+Shows (stabiliser t v) = Unit {0}

@@ -1,10 +1,10 @@
 -- What holds of all answers, and of all valid certificates, as statements that contracts name.
 use Rattle.std.specs.Prelude.{◌≡◌, ℕ, ◌≤◌, List, length}
-use Rattle.wh_words.specs.Limits.{most_rank, most_level_rank, most_level_tuples}
+use Rattle.wh_words.specs.Limits.{most_rank, most_level_rank, most_level_tuples, most_stabiliser_rank}
 use Rattle.wh_words.specs.Tuples.{IsTuple}
 use Rattle.wh_data.specs.declared.answer.Answer.{Answer}
 use Rattle.wh_data.specs.ProblemData.{ProblemData}
-use Rattle.wh_data.specs.ProblemData.ProblemData.{reduce, decide, straighten}
+use Rattle.wh_data.specs.ProblemData.ProblemData.{reduce, decide, straighten, stabiliser}
 use Rattle.wh_data.specs.AnswerData.{AnswerData, answer_of}
 use Rattle.wh_data.specs.AnswerTexts.{answer_text}
 use Rattle.wh_data.specs.Statuses.{answer_status}
@@ -20,12 +20,14 @@ abbrev pub IsProblem : ProblemData → Type 0
 IsProblem (reduce t) = IsTuple t × (1 ≤ t.rank) × (t.rank ≤ most_rank)
 IsProblem (decide s t) = IsTuple s × IsTuple t × (s.rank ≡ t.rank) × (1 ≤ s.rank) × (s.rank ≤ most_level_rank) × (length s.words ≡ length t.words)
 IsProblem (straighten t list) = IsTuple t × (1 ≤ t.rank) × (t.rank ≤ most_rank) × AreMovesOfRank t.rank list
+IsProblem (stabiliser t) = IsTuple t × (1 ≤ t.rank) × (t.rank ≤ most_stabiliser_rank)
 
 -- The problem asks for one answer: it isn't one of `straighten`, where each straight list serves.
 abbrev pub AsksForOne : ProblemData → Type 0
 AsksForOne (reduce t) = Unit {0}
 AsksForOne (decide s t) = Unit {0}
 AsksForOne (straighten t list) = ⊥
+AsksForOne (stabiliser t) = Unit {0}
 
 -- One status answers a problem, and one text, where it asks for one answer.
 abbrev pub AnswerIsUnique : Type 0

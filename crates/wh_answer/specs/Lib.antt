@@ -1,3 +1,7 @@
+pub mod Sides
+pub mod StabiliserAnswers
+pub mod StabiliserFindings
+pub mod StabiliserMeanings
 pub mod Answers
 pub mod Traced
 pub mod Findings

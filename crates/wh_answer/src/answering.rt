@@ -1,13 +1,14 @@
 //! The answer to a problem.
 ghost use Rattle.std.specs.Prelude.{◌≡◌, ℕ, IfOk};
 ghost use Rattle.wh_data.specs.ProblemData.{problem_of};
-ghost use Rattle.wh_data.specs.ProblemData.ProblemData.{reduce as to_reduce, decide as to_decide};
+ghost use Rattle.wh_data.specs.ProblemData.ProblemData.{reduce as to_reduce, decide as to_decide, stabiliser as to_stabiliser};
 ghost use Rattle.wh_data.specs.AnswerTexts.{IsPrintable, IsPrintableVerdict};
 ghost use Rattle.wh_data.specs.AnswerData.{answer_of, verdict_of};
 ghost use Rattle.wh_answer.specs.Answers.{Answers, IsAnswerable, IsVerdict};
 ghost use Rattle.wh_answer.specs.Certified.{IsDecided, IsValid};
 
 use crate::deciding::decide;
+use crate::presenting::present;
 use crate::side::side_of;
 use std::alloc::Global;
 use wh_data::{Answer, Problem, Verdict};
@@ -81,6 +82,25 @@ fn decided(alloc: Global, first: &Tuple, second: &Tuple, limit: u32) -> Result<A
     answer_with(alloc, first, second, verdict)
 }
 
+/// The answer where the stabiliser of a tuple is asked for.
+fn presented(alloc: Global, tuple: &Tuple, limit: u32) -> Result<Answer, OutOfMemory>
+    requires { IsAnswerable (to_stabiliser tuple.now.plain) }
+    ensures answers { IfOk result (Answers limit (to_stabiliser tuple.now.plain)) }
+    ensures printable { IfOk result (λ a. IsPrintable (answer_of a)) }
+    ensures valid { IfOk result (λ a. IsDecided (answer_of a) → IsValid (answer_of a)) }
+{
+    // The proof takes from this call that it is a tuple.
+    tuple.rank();
+    let verdict = present(alloc, tuple, limit)?;
+    match tuple.copy(alloc) {
+        Ok(tuple) => Ok(Answer::Stabiliser { tuple, verdict }),
+        Err(error) => {
+            drop(verdict);
+            Err(error)
+        }
+    }
+}
+
 /// The answer to a problem, where levels may have at most so many tuples. The problem isn't one of `straighten`. The
 /// answer can be printed.
 ///
@@ -89,8 +109,11 @@ fn decided(alloc: Global, first: &Tuple, second: &Tuple, limit: u32) -> Result<A
 /// that holds of the ends of their traces: a no where their lengths differ; a yes where they are one tuple; undecided
 /// where they have more than 256 letters; undecided where the level of the first end has more tuples than the limit; a
 /// yes where the second end is in this level; and a no with the whole level where it isn't. The moves of a yes carry
-/// the first tuple onto the second (Lyndon and Schupp, I.4). An answer that isn't undecided is a valid certificate: its
-/// lines keep all the rules that `wh_cert` judges by.
+/// the first tuple onto the second (Lyndon and Schupp, I.4). The stabiliser of a tuple, of rank MOST_STABILISER_RANK at
+/// most, is answered with the side of the tuple, the level of its end, the tree of first walks, the generators off the tree
+/// and the relators (McCool 1975); it is undecided where the end has more than 256 letters, the level has more tuples than
+/// the limit, or it has too many edges or relators. An answer of `reduce` or `decide` that isn't undecided is a valid
+/// certificate: its lines keep all the rules that `wh_cert` judges by.
 pub fn answer(alloc: Global, problem: &Problem, limit: u32) -> Result<Answer, OutOfMemory>
     requires { IsAnswerable (problem_of problem.now) }
     ensures answers { IfOk result (Answers limit (problem_of problem.now)) }
@@ -100,6 +123,7 @@ pub fn answer(alloc: Global, problem: &Problem, limit: u32) -> Result<Answer, Ou
     match problem {
         Problem::Reduce { tuple } => reduced(alloc, tuple),
         Problem::Decide { first, second } => decided(alloc, first, second, limit),
+        Problem::Stabiliser { tuple } => presented(alloc, tuple, limit),
         Problem::Straighten { .. } => unreachable!(),
     }
 }

@@ -6,7 +6,8 @@ ghost use Rattle.wh_words.specs.CapacityTraces.{IsFlatByCapacities, IsCapacityTr
 ghost use Rattle.wh_words.specs.Levels.{InLevel, IsLevel};
 ghost use Rattle.wh_data.specs.AnswerData.{side_of as told_side, verdict_of};
 ghost use Rattle.wh_data.specs.AnswerTexts.{IsPrintableSide, IsPrintableVerdict};
-ghost use Rattle.wh_answer.specs.Answers.{IsSideOf, IsVerdict};
+ghost use Rattle.wh_answer.specs.Sides.{IsSideOf};
+ghost use Rattle.wh_answer.specs.Answers.{IsVerdict};
 ghost use Rattle.wh_answer.specs.Findings.{Finds};
 ghost use Rattle.wh_answer.specs.Traced.{AreTraced, AreApart};
 

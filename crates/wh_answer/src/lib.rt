@@ -6,6 +6,7 @@ mod deciding;
 mod exploring;
 mod finding;
 pub mod laws;
+mod presenting;
 mod side;
 mod straightening;
 

@@ -4,7 +4,7 @@ ghost use Rattle.wh_words.specs.Tuples.{TupleData};
 ghost use Rattle.wh_words.specs.CapacityTraces.{IsFlatByCapacities, IsCapacityTrace};
 ghost use Rattle.wh_data.specs.AnswerData as told;
 ghost use Rattle.wh_data.specs.AnswerTexts.{IsPrintableSide};
-ghost use Rattle.wh_answer.specs.Answers.{IsSideOf};
+ghost use Rattle.wh_answer.specs.Sides.{IsSideOf};
 
 use std::alloc::Global;
 use wh_data::Side;

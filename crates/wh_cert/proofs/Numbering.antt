@@ -5,7 +5,7 @@ use Rattle.std.proofs.lemmas.List.Elements.{All-nil, All-cons, All-append, All-c
 use Rattle.wh_words.specs.Tuples.{TupleData}
 use Rattle.wh_data.specs.AnswerData.{SideData, VerdictData, AnswerData, CertificateData}
 use Rattle.wh_data.specs.AnswerData.VerdictData.{yes, no_length, no_level, undecided}
-use Rattle.wh_data.specs.AnswerData.AnswerData.{reduce, decide, straighten}
+use Rattle.wh_data.specs.AnswerData.AnswerData.{reduce, decide, straighten, stabiliser}
 use Rattle.wh_data.specs.Numberings.{head_lines, side_lines, IsSideOfRank, IsVerdictOfRank, IsAnswerOfOneRank, IsNumbered, verdict_lines, answer_lines}
 use Rattle.wh_cert.specs.declared.checked.Rule.{Rule}
 use Rattle.wh_cert.specs.Demands.{Demand, Placed, fit_on_the_way, moves_carry, trace_ends, lengths_differ, lengths_agree, has_root, rises, has_height, is_absent, is_closed, tuple_at, asked_below, trace_asked, flow_asked, flows_asked, side_asked, sides_asked, at_asked, level_asked, verdict_asked, asked}
@@ -89,6 +89,7 @@ asked_before : (heads : List (ℕ × ℕ)) (answer : AnswerData) → IsAnswerOfO
 asked_before heads (reduce t s) is = side_before (answer_lines (reduce t s)) (head_lines (reduce t s)) heads t s is (omega arith)
 asked_before heads (decide s t v) is = verdict_before (answer_lines (decide s t v)) (head_lines (decide s t v)) heads s t v is.1 (omega arith)
 asked_before heads (straighten t given ms end) is = absurd is
+asked_before heads (stabiliser t v) is = absurd is
 
 pub broken_line : (heads : List (ℕ × ℕ)) (answer : AnswerData) (place : ℕ) (rule : Rule) → IsAnswerOfOneRank answer → IsFirstBroken (asked heads answer) place rule → place < answer_lines answer
 broken_line heads answer place rule is first = broken_before (answer_lines answer) (asked heads answer) place rule (asked_before heads answer is) first

@@ -13,7 +13,7 @@ use Rattle.wh_flow.specs.Tables.{cell}
 use Rattle.wh_moves.specs.Acts.{FitsOnTheWay}
 use Rattle.wh_data.specs.AnswerData.{SideData, VerdictData, AnswerData}
 use Rattle.wh_data.specs.AnswerData.VerdictData.{yes, no_length, no_level, undecided}
-use Rattle.wh_data.specs.AnswerData.AnswerData.{reduce, decide, straighten}
+use Rattle.wh_data.specs.AnswerData.AnswerData.{reduce, decide, straighten, stabiliser}
 use Rattle.wh_data.specs.Numberings.{head_lines, side_lines}
 use Rattle.wh_cert.specs.declared.checked.Rule.{Rule}
 use Rattle.wh_cert.specs.declared.checked.Rule.TheVariants as rules
@@ -151,3 +151,4 @@ abbrev pub asked : List (ℕ × ℕ) → AnswerData → List Placed
 asked heads (reduce t s) = side_asked (head_lines (reduce t s)) heads t s
 asked heads (decide s t v) = verdict_asked (head_lines (decide s t v)) heads s t v
 asked heads (straighten t given ms end) = []
+asked heads (stabiliser t v) = []

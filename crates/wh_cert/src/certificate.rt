@@ -201,8 +201,9 @@ fn judge_answer(alloc: Global, heads: &[(Letter, u32)], answer: &Answer) -> Resu
             second,
             verdict,
         } => judge_verdict(alloc, place, heads, first, second, verdict),
-        // No certificate is such an answer.
+        // No certificate is one of these.
         Answer::Straighten { .. } => Ok(()),
+        Answer::Stabiliser { .. } => Ok(()),
     }
 }
 

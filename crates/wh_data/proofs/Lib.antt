@@ -1,2 +1,3 @@
 pub mod PrintedAnswers
 pub mod RowCounts
+pub mod PrintedPresentations

@@ -1,12 +1,20 @@
 -- How many rows an answer has: for the law that counts them.
-use Rattle.std.proofs.Common.{◌≡◌, ℕ, ◌+◌, ◌*◌, List, [], ◌∷◌, ◌++◌, length, refl, arith, length-append}
+use Rattle.std.proofs.Common.{None, Some, cond, ◌≡◌, ℕ, ◌+◌, ◌*◌, List, [], ◌∷◌, ◌++◌, length, refl, arith, length-append}
+use Rattle.std.specs.Prelude.{Option, is_some}
+use Rattle.std.specs.List.{count_by}
+use Rattle.std.proofs.lemmas.List.{length-map}
+use Rattle.std.proofs.lemmas.List.Sums.{sum_by-cons}
 use Rattle.wh_words.specs.Tuples.{TupleData}
+use Rattle.wh_words.specs.Moves.{Move}
+use Rattle.wh_fields.specs.StabiliserFields.{generator_row, relator_row}
 use Rattle.wh_fields.specs.FlowFields.{flow_rows}
-use Rattle.wh_data.specs.AnswerData.{SideData, VerdictData, AnswerData}
+use Rattle.wh_data.specs.AnswerData.{SideData, VerdictData, PartsData, AnswerData}
+use Rattle.wh_data.specs.AnswerData.StabVerdictData.{done}
 use Rattle.wh_data.specs.AnswerData.VerdictData.{yes, no_length, no_level, undecided}
-use Rattle.wh_data.specs.AnswerData.AnswerData.{reduce, decide, straighten}
-use Rattle.wh_data.specs.AnswerTexts.{side_rows, at_rows, level_rows, verdict_rows, done_row, head_rows, body_rows}
-use Rattle.wh_data.specs.Numberings.{IsSideOfRank, IsVerdictOfRank, side_lines, verdict_lines}
+use Rattle.wh_data.specs.AnswerData.AnswerData.{reduce, decide, straighten, stabiliser}
+use Rattle.wh_data.specs.PresentationTexts.{tree_rows, generator_rows, relator_rows, presentation_rows}
+use Rattle.wh_data.specs.AnswerTexts.{side_rows, at_rows, level_rows, verdict_rows, stab_rows, done_row, head_rows, body_rows}
+use Rattle.wh_data.specs.Numberings.{IsSideOfRank, IsVerdictOfRank, side_lines, verdict_lines, stab_lines}
 use Rattle.wh_data.specs.Laws.{CountsRows}
 
 flow_count : (n g : ℕ) (fs : List (List ℕ)) → length (flow_rows n g fs) ≡ length fs
@@ -29,6 +37,38 @@ verdict_count n (no_length a b) is = sides_count n a b is.0 is.1
 verdict_count n (no_level a b ts) is = omega (arith, length-append (side_rows a ++ side_rows b) (level_rows ts), sides_count n a b is.0 is.1, at_count ts)
 verdict_count n (undecided bound) is = absurd is
 
+-- ---- what presents a stabiliser
+tree_count : (v : ℕ) (es : List (Option (ℕ × Move))) → length (tree_rows v es) ≡ count_by is_some es
+tree_count v [] = refl
+tree_count v (None ∷ es) = tree_count (v + 1) es
+tree_count v (Some e ∷ es) =
+    let one : count_by is_some (Some e ∷ es) ≡ 1 + count_by is_some es = sum_by-cons (λ e. cond (is_some e) 1 0) (Some e) es in
+    omega (arith, one, tree_count (v + 1) es)
+
+presentation_count : (p : PartsData) → length (presentation_rows p) ≡ count_by is_some p.tree + length p.generators + length p.relators + 2
+presentation_count p =
+    omega (
+      arith,
+      length-append (tree_rows 0 p.tree ++ generator_rows p.generators) (relator_rows p.relators),
+      length-append (tree_rows 0 p.tree) (generator_rows p.generators),
+      tree_count 0 p.tree,
+      length-map p.generators (λ g. generator_row g.0 g.1),
+      length-map p.relators (λ r. relator_row r.at r.moves r.word),
+    )
+
+-- where a side is of rank n
+pub stab_count : (n : ℕ) (s : SideData) (p : PartsData) → IsSideOfRank n s → length (stab_rows (done s p)) ≡ stab_lines n (done s p)
+stab_count n s p is =
+    omega (
+      arith,
+      length-append (side_rows s ++ level_rows p.vertices) (presentation_rows p),
+      length-append (side_rows s) (level_rows p.vertices),
+      side_count n s is,
+      at_count p.vertices,
+      presentation_count p,
+    )
+
+-- ---- answers
 whole_count : (a : AnswerData) (k : ℕ) → length (body_rows a) ≡ k → length ((head_rows a ++ body_rows a) ++ done_row ∷ []) ≡ length (head_rows a) + k + 1
 whole_count a k e = omega (arith, length-append (head_rows a ++ body_rows a) (done_row ∷ []), length-append (head_rows a) (body_rows a), e)
 
@@ -36,3 +76,4 @@ pub counts_rows : CountsRows
 counts_rows (reduce t s) is = whole_count (reduce t s) (side_lines t.rank) (side_count t.rank s is)
 counts_rows (decide s t v) is = whole_count (decide s t v) (verdict_lines s.rank v) (verdict_count s.rank v is.1)
 counts_rows (straighten t given ms end) is = absurd is
+counts_rows (stabiliser t v) is = absurd is

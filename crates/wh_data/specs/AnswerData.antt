@@ -1,11 +1,15 @@
 -- What a text tells of an answer: all but the room of its tuples.
-use Rattle.std.specs.Prelude.{ℕ, List, map}
+use Rattle.std.specs.Prelude.{ℕ, List, Option, map}
 use Rattle.wh_words.specs.Tuples.{TupleData, Tuple}
 use Rattle.wh_words.specs.Moves.{Move}
 use Rattle.wh_data.specs.declared.answer.Side.{Side}
 use Rattle.wh_data.specs.declared.answer.Bound.{Bound}
 use Rattle.wh_data.specs.declared.answer.Verdict.{Verdict}
 use Rattle.wh_data.specs.declared.answer.Verdict.TheVariants as verdicts
+use Rattle.wh_data.specs.declared.answer.Loop.{Loop}
+use Rattle.wh_data.specs.declared.answer.Parts.{Parts}
+use Rattle.wh_data.specs.declared.answer.StabVerdict.{StabVerdict}
+use Rattle.wh_data.specs.declared.answer.StabVerdict.TheVariants as stabs
 use Rattle.wh_data.specs.declared.answer.Answer.{Answer}
 use Rattle.wh_data.specs.declared.answer.Answer.TheVariants as answers
 use Rattle.wh_data.specs.declared.numbered.Numbered.{Numbered}
@@ -27,11 +31,24 @@ pub data VerdictData : Type 0 where
   no_level : SideData → SideData → List TupleData → VerdictData
   undecided : Bound → VerdictData
 
+-- The vertices of a level, for each the parent and the move that leads from it, the generators and the relators.
+pub record PartsData : Type 0 where
+  pub vertices : List TupleData
+  pub tree : List (Option (ℕ × Move))
+  pub generators : List (ℕ × Move)
+  pub relators : List Loop
+
+-- The side of a tuple and what presents its stabiliser, or the bound that was met.
+pub data StabVerdictData : Type 0 where
+  done : SideData → PartsData → StabVerdictData
+  stopped : Bound → StabVerdictData
+
 -- The answer of a command.
 pub data AnswerData : Type 0 where
   reduce : TupleData → SideData → AnswerData
   decide : TupleData → TupleData → VerdictData → AnswerData
   straighten : TupleData → List Move → List Move → TupleData → AnswerData
+  stabiliser : TupleData → StabVerdictData → AnswerData
 
 -- An answer, the numbers of the lines of its text that aren't skipped, and the letter and the value that each `flow` line names.
 pub record CertificateData : Type 0 where
@@ -49,10 +66,18 @@ verdict_of (verdicts.NoLength a b) = no_length (side_of a) (side_of b)
 verdict_of (verdicts.NoLevel a b ts) = no_level (side_of a) (side_of b) (plains ts)
 verdict_of (verdicts.Undecided bound) = undecided bound
 
+abbrev pub parts_of : Parts → PartsData
+parts_of p = record { vertices = plains p.vertices; tree = p.tree; generators = p.generators; relators = p.relators }
+
+abbrev pub stab_verdict_of : StabVerdict → StabVerdictData
+stab_verdict_of (stabs.Done s p) = done (side_of s) (parts_of p)
+stab_verdict_of (stabs.Undecided bound) = stopped bound
+
 abbrev pub answer_of : Answer → AnswerData
 answer_of (answers.Reduce t s) = reduce t.plain (side_of s)
 answer_of (answers.Decide s t v) = decide s.plain t.plain (verdict_of v)
 answer_of (answers.Straighten t given ms end) = straighten t.plain given ms end.plain
+answer_of (answers.Stabiliser t v) = stabiliser t.plain (stab_verdict_of v)
 
 abbrev pub certificate_of : Numbered → CertificateData
 certificate_of n = record { answer = answer_of n.answer; lines = n.lines; flow_heads = n.flow_heads }

@@ -6,9 +6,10 @@ use Rattle.wh_words.specs.Tuples.{IsTuple}
 use Rattle.wh_fields.specs.FlowFields.{IsFlowOf, heads_from}
 use Rattle.wh_fields.specs.MoveFields.{IsMoveOf}
 use Rattle.wh_fields.specs.TupleFields.{IsTupleOf}
-use Rattle.wh_data.specs.AnswerData.{SideData, VerdictData, AnswerData}
+use Rattle.wh_data.specs.AnswerData.{SideData, VerdictData, StabVerdictData, AnswerData}
 use Rattle.wh_data.specs.AnswerData.VerdictData.{yes, no_length, no_level, undecided}
-use Rattle.wh_data.specs.AnswerData.AnswerData.{reduce, decide, straighten}
+use Rattle.wh_data.specs.AnswerData.StabVerdictData.{done, stopped}
+use Rattle.wh_data.specs.AnswerData.AnswerData.{reduce, decide, straighten, stabiliser}
 
 -- A side in rank n, whose end has so many words.
 pub record IsSideOf (n count : ℕ) (s : SideData) : Type 0 where
@@ -29,6 +30,7 @@ abbrev pub IsCertificate : AnswerData → Type 0
 IsCertificate (reduce t s) = IsTuple t × (1 ≤ t.rank) × (t.rank ≤ most_rank) × IsSideOf t.rank (length t.words) s
 IsCertificate (decide s t v) = IsTuple s × (1 ≤ s.rank) × (s.rank ≤ most_level_rank) × IsTupleOf s.rank (length s.words) t × IsVerdictOf s.rank (length s.words) v
 IsCertificate (straighten t given ms end) = ⊥
+IsCertificate (stabiliser t v) = ⊥
 
 abbrev pub verdict_heads : VerdictData → List (ℕ × ℕ)
 verdict_heads (yes ms) = []
@@ -36,8 +38,13 @@ verdict_heads (no_length a b) = heads_from 0 a.flows ++ heads_from 0 b.flows
 verdict_heads (no_level a b ts) = heads_from 0 a.flows ++ heads_from 0 b.flows
 verdict_heads (undecided bound) = []
 
+abbrev pub stab_heads : StabVerdictData → List (ℕ × ℕ)
+stab_heads (done s p) = heads_from 0 s.flows
+stab_heads (stopped bound) = []
+
 -- The letters and values that the `flow` lines of an answer name.
 abbrev pub heads_of : AnswerData → List (ℕ × ℕ)
 heads_of (reduce t s) = heads_from 0 s.flows
 heads_of (decide s t v) = verdict_heads v
 heads_of (straighten t given ms end) = []
+heads_of (stabiliser t v) = stab_heads v

@@ -3,6 +3,7 @@ pub mod Limits
 pub mod Commands
 pub mod ProblemData
 pub mod AnswerData
+pub mod PresentationTexts
 pub mod AnswerTexts
 pub mod AnswerParts
 pub mod Numberings

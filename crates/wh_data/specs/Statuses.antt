@@ -2,6 +2,8 @@
 use Rattle.std.specs.Prelude.{ℕ}
 use Rattle.wh_data.specs.declared.answer.Verdict.{Verdict}
 use Rattle.wh_data.specs.declared.answer.Verdict.TheVariants as verdicts
+use Rattle.wh_data.specs.declared.answer.StabVerdict.{StabVerdict}
+use Rattle.wh_data.specs.declared.answer.StabVerdict.TheVariants as stabs
 use Rattle.wh_data.specs.declared.answer.Answer.{Answer}
 use Rattle.wh_data.specs.declared.answer.Answer.TheVariants as answers
 use Rattle.wh_data.specs.declared.status.Status.{Status}
@@ -24,8 +26,14 @@ verdict_status (verdicts.NoLength s t) = statuses.No
 verdict_status (verdicts.NoLevel s t level) = statuses.No
 verdict_status (verdicts.Undecided b) = statuses.Undecided
 
+-- How a run ends that writes what is found of a stabiliser.
+abbrev pub stab_status : StabVerdict → Status
+stab_status (stabs.Done s p) = statuses.Done
+stab_status (stabs.Undecided b) = statuses.Undecided
+
 -- How a run ends that writes an answer.
 abbrev pub answer_status : Answer → Status
 answer_status (answers.Reduce t s) = statuses.Done
 answer_status (answers.Decide s t v) = verdict_status v
 answer_status (answers.Straighten t given ms end) = statuses.Done
+answer_status (answers.Stabiliser t v) = stab_status v

@@ -2,7 +2,7 @@
 ghost use Rattle.std.specs.Prelude.{◌≡◌, ◌≤◌};
 ghost use Rattle.wh_data.specs.AnswerData.{answer_of};
 ghost use Rattle.wh_data.specs.Numberings.{head_lines};
-ghost use Rattle.wh_data.specs.Statuses.{verdict_status, answer_status};
+ghost use Rattle.wh_data.specs.Statuses.{verdict_status, stab_status, answer_status};
 
 use crate::status::Status;
 use wh_flow::Flow;
@@ -20,13 +20,17 @@ pub struct Side {
     pub flows: List<Flow>,
 }
 
-/// What was met that is too large to decide.
+/// What was met that is too large.
 #[derive(Clone, Copy, PartialEq, Eq, Debug)]
 pub enum Bound {
     /// The tuples at the ends have this length, which is over 256.
     Length(u32),
     /// The level has more tuples than this limit.
     Level(u32),
+    /// The level has more than 65,536 edges.
+    Edges,
+    /// The level has more than 393,216 relators.
+    Relators,
 }
 
 /// Whether moves carry one tuple onto another. That a no means that none do is peak reduction (Lyndon and Schupp, I.4).
@@ -56,6 +60,51 @@ impl Verdict {
     }
 }
 
+/// A relator: a way round the level from a vertex, and the numbers of the generators on it.
+#[derive(Drop)]
+pub struct Loop {
+    /// The vertex, counted from 0.
+    pub at: usize,
+    /// The moves on the way, first to last.
+    pub moves: List<Move>,
+    /// The numbers of the generators on the way, counted from 1, first to last.
+    pub word: List<u32>,
+}
+
+/// What presents the stabiliser of a tuple that no cut shortens (McCool 1975). Vertices are counted from 0.
+#[derive(Drop)]
+pub struct Parts {
+    /// The vertices: the tuples of the level. The first is the tuple itself.
+    pub vertices: List<Tuple>,
+    /// For each vertex its parent in a tree, and the move that leads from there to it. The root has none.
+    pub tree: List<Option<(usize, Move)>>,
+    /// For each generator a vertex, and a move that leads on from there.
+    pub generators: List<(usize, Move)>,
+    /// The relators.
+    pub relators: List<Loop>,
+}
+
+/// What is found of the stabiliser of a tuple.
+#[derive(Drop)]
+pub enum StabVerdict {
+    /// The side of the tuple, and what presents the stabiliser of its end.
+    Done(Side, Parts),
+    /// It isn't made, for this bound.
+    Undecided(Bound),
+}
+
+impl StabVerdict {
+    /// How a run ends that writes what is found.
+    fn status(&self) -> Status
+        ensures { result ≡ stab_status self.now }
+    {
+        match self {
+            StabVerdict::Done(_, _) => Status::Done,
+            StabVerdict::Undecided(_) => Status::Undecided,
+        }
+    }
+}
+
 /// What a command answers.
 #[derive(Drop)]
 pub enum Answer {
@@ -77,6 +126,11 @@ pub enum Answer {
         moves: List<Move>,
         end: Tuple,
     },
+    /// The tuple that was asked for, and what is found of its stabiliser.
+    Stabiliser {
+        tuple: Tuple,
+        verdict: StabVerdict,
+    },
 }
 
 impl Answer {
@@ -89,6 +143,7 @@ impl Answer {
             Answer::Reduce { .. } => 3,
             Answer::Decide { .. } => 5,
             Answer::Straighten { .. } => 3,
+            Answer::Stabiliser { .. } => 3,
         }
     }
 
@@ -100,6 +155,7 @@ impl Answer {
             Answer::Reduce { .. } => Status::Done,
             Answer::Decide { verdict, .. } => verdict.status(),
             Answer::Straighten { .. } => Status::Done,
+            Answer::Stabiliser { verdict, .. } => verdict.status(),
         }
     }
 }

@@ -11,6 +11,8 @@ pub enum Command {
     Decide,
     /// A straight list of moves in the place of another.
     Straighten,
+    /// Generators and relators of the stabiliser of a tuple.
+    Stabiliser,
 }
 
 impl Command {
@@ -22,6 +24,7 @@ impl Command {
             Command::Reduce => b"reduce",
             Command::Decide => b"decide",
             Command::Straighten => b"straighten",
+            Command::Stabiliser => b"stabiliser",
         }
     }
 
@@ -35,6 +38,8 @@ impl Command {
             Some(Command::Decide)
         } else if name == Command::Straighten.name() {
             Some(Command::Straighten)
+        } else if name == Command::Stabiliser.name() {
+            Some(Command::Stabiliser)
         } else {
             None
         }
@@ -48,6 +53,7 @@ impl Command {
             Command::Reduce => true,
             Command::Decide => true,
             Command::Straighten => false,
+            Command::Stabiliser => false,
         }
     }
 }
@@ -63,5 +69,5 @@ pub fn answer_version() -> &'static [u8]
 pub fn is_unchecked_name(name: &[u8]) -> bool
     ensures { result ≡ is_unchecked_name name.now }
 {
-    name == b"stabiliser".as_slice() || name == b"gen".as_slice()
+    name == b"gen".as_slice()
 }

@@ -6,11 +6,12 @@ mod command;
 pub mod laws;
 mod limits;
 mod numbered;
+mod presentation_printer;
 mod printer;
 mod problem;
 mod status;
 
-pub use answer::{Answer, Bound, Side, Verdict};
+pub use answer::{Answer, Bound, Loop, Parts, Side, StabVerdict, Verdict};
 pub use command::{Command, answer_version, is_unchecked_name};
 pub use limits::{MOST_ANSWER_BYTES, MOST_GIVEN_MOVES, MOST_PROBLEM_BYTES};
 pub use numbered::Numbered;

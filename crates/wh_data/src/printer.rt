@@ -1,20 +1,22 @@
 //! Printing of answers.
-ghost use Rattle.std.specs.Prelude.{◌≡◌, ◌∷◌, [], ◌++◌, length, IfOk, OnOk, codes};
+ghost use Rattle.std.specs.Prelude.{◌≡◌, ◌∷◌, [], ◌++◌, length, IfOk, OnOk, codes, decimal};
 ghost use Rattle.wh_lines.specs.Rows.{fields_text, number_row, row_text, rows_text};
 ghost use Rattle.wh_fields.specs.TupleFields.{words_row};
 ghost use Rattle.wh_fields.specs.MoveFields.{moves_row};
-ghost use Rattle.wh_data.specs.AnswerData.{plains, side_of, verdict_of, answer_of};
+ghost use Rattle.wh_data.specs.AnswerData.{plains, side_of, verdict_of, stab_verdict_of, answer_of};
 ghost use Rattle.wh_data.specs.declared.command.Command.TheVariants as commands;
+ghost use Rattle.wh_data.specs.AnswerData.VerdictData.{undecided};
 ghost use Rattle.wh_data.specs.Commands.{heading_row};
-ghost use Rattle.wh_data.specs.AnswerTexts.{side_rows, at_rows, level_rows, bound_fields, verdict_row, verdict_rows, tuple_rows, head_rows, body_rows, answer_text, IsPrintableSide, IsPrintableVerdict, IsPrintable};
+ghost use Rattle.wh_data.specs.AnswerTexts.{side_rows, at_rows, level_rows, bound_fields, verdict_row, verdict_rows, stab_rows, tuple_rows, head_rows, body_rows, answer_text, IsPrintableSide, IsPrintableVerdict, IsPrintableStab, IsPrintable};
 
-use crate::answer::{Answer, Bound, Side, Verdict};
+use crate::answer::{Answer, Bound, Side, StabVerdict, Verdict};
 use crate::command::{Command, answer_version};
+use crate::presentation_printer::print_presentation;
 use std::alloc::Global;
 use wh_fields::{print_flows, print_moves, print_words};
 use wh_lines::{print_number, print_number_row};
 use wh_moves::Move;
-use wh_words::{OutOfMemory, Tuple};
+use wh_words::{MOST_LEVEL_EDGES, MOST_RELATORS, OutOfMemory, Tuple};
 
 /// Writes the lines of a side.
 #[tactic(auto, using(crate::proofs::PrintedAnswers::side_text))]
@@ -57,20 +59,44 @@ fn print_level(out: &mut Vec<u8>, level: &[Tuple]) -> Result<(), OutOfMemory>
     print_tuples(out, level)
 }
 
+/// The name of a bound, and its number.
+fn bound_parts(bound: Bound) -> (&'static [u8], u64)
+    ensures { bound_fields bound ≡ result.0.now ∷ decimal result.1 ∷ [] }
+{
+    match bound {
+        Bound::Length(length) => (b"length", length as u64),
+        Bound::Level(limit) => (b"level", limit as u64),
+        Bound::Edges => (b"edges", MOST_LEVEL_EDGES as u64),
+        Bound::Relators => (b"relators", MOST_RELATORS as u64),
+    }
+}
+
 /// Writes the bound that was met, as fields.
 fn print_bound(out: &mut Vec<u8>, bound: Bound) -> Result<(), OutOfMemory>
     ensures { OnOk result (out.new.items ≡ out.old.items ++ fields_text (bound_fields bound)) }
 {
-    match bound {
-        Bound::Length(length) => {
-            out.extend_from_slice(b" length ")?;
-            print_number(out, length as u64)
-        }
-        Bound::Level(limit) => {
-            out.extend_from_slice(b" level ")?;
-            print_number(out, limit as u64)
-        }
-    }
+    let (name, number) = bound_parts(bound);
+    out.push(b' ')?;
+    out.extend_from_slice(name)?;
+    out.push(b' ')?;
+    print_number(out, number)
+}
+
+/// Writes the fields of an undecided verdict.
+fn print_undecided(out: &mut Vec<u8>, bound: Bound) -> Result<(), OutOfMemory>
+    ensures { OnOk result (out.new.items ≡ out.old.items ++ codes "verdict undecided" ++ fields_text (bound_fields bound)) }
+{
+    out.extend_from_slice(b"verdict undecided")?;
+    print_bound(out, bound)
+}
+
+/// Writes the line of an undecided verdict.
+fn print_undecided_row(out: &mut Vec<u8>, bound: Bound) -> Result<(), OutOfMemory>
+    ensures { OnOk result (out.new.items ≡ out.old.items ++ row_text (verdict_row (undecided bound))) }
+{
+    print_undecided(out, bound)?;
+    out.push(b'\n')?;
+    Ok(())
 }
 
 /// Writes the line of a verdict.
@@ -81,10 +107,7 @@ fn print_verdict(out: &mut Vec<u8>, verdict: &Verdict) -> Result<(), OutOfMemory
         Verdict::Yes(_) => out.extend_from_slice(b"verdict yes")?,
         Verdict::NoLength(_, _) => out.extend_from_slice(b"verdict no length")?,
         Verdict::NoLevel(_, _, _) => out.extend_from_slice(b"verdict no level")?,
-        Verdict::Undecided(bound) => {
-            out.extend_from_slice(b"verdict undecided")?;
-            print_bound(out, *bound)?;
-        }
+        Verdict::Undecided(bound) => print_undecided(out, *bound)?,
     }
     out.push(b'\n')?;
     Ok(())
@@ -104,6 +127,22 @@ fn print_after_verdict(out: &mut Vec<u8>, verdict: &Verdict) -> Result<(), OutOf
             print_level(out, level.items())
         }
         Verdict::Undecided(_) => Ok(()),
+    }
+}
+
+/// Writes the lines of a side, a level and what presents a stabiliser, or that of the bound that was met.
+fn print_stabiliser(out: &mut Vec<u8>, verdict: &StabVerdict) -> Result<(), OutOfMemory>
+    requires { IsPrintableStab (stab_verdict_of verdict.now) }
+    ensures { OnOk result (out.new.items ≡ out.old.items ++ rows_text (stab_rows (stab_verdict_of verdict.now))) }
+{
+    match verdict {
+        StabVerdict::Done(side, parts) => {
+            print_side(out, side)?;
+            print_level(out, parts.vertices.items())?;
+            print_presentation(out, parts)?;
+            Ok(())
+        }
+        StabVerdict::Undecided(bound) => print_undecided_row(out, *bound),
     }
 }
 
@@ -153,6 +192,7 @@ fn print_head(out: &mut Vec<u8>, answer: &Answer) -> Result<(), OutOfMemory>
     match answer {
         Answer::Reduce { tuple, .. } => print_tuple_head(out, Command::Reduce, tuple),
         Answer::Straighten { tuple, .. } => print_tuple_head(out, Command::Straighten, tuple),
+        Answer::Stabiliser { tuple, .. } => print_tuple_head(out, Command::Stabiliser, tuple),
         Answer::Decide {
             first,
             second,
@@ -189,12 +229,13 @@ fn print_body(out: &mut Vec<u8>, answer: &Answer) -> Result<(), OutOfMemory>
             end,
             ..
         } => print_straightened(out, given.items(), moves.items(), end),
+        Answer::Stabiliser { verdict, .. } => print_stabiliser(out, verdict),
     }
 }
 
 /// The text of an answer: a heading, the rank, the lines of its command, and `done`. Each side has one flow for each
-/// generator of the end's rank, whose value from the generator to its inverse is from 0 to 4,294,967,295. OutOfMemory
-/// comes where there is no memory for the text.
+/// generator of the end's rank, whose value from the generator to its inverse is from 0 to 4,294,967,295. The number of a
+/// vertex that is named, counted from 1, is below 2 ^ 64. OutOfMemory comes where there is no memory for the text.
 #[tactic(auto, using(crate::proofs::PrintedAnswers::whole_text))]
 pub fn print_answer(alloc: Global, answer: &Answer) -> Result<Vec<u8>, OutOfMemory>
     requires { IsPrintable (answer_of answer.now) }

@@ -11,4 +11,6 @@ pub enum Problem {
     Decide { first: Tuple, second: Tuple },
     /// To straighten a list of moves that leads from a tuple.
     Straighten { tuple: Tuple, moves: List<Move> },
+    /// To present the stabiliser of a tuple.
+    Stabiliser { tuple: Tuple },
 }

@@ -107,7 +107,7 @@ pub(crate) fn have_words(tuples: &[Tuple], texts: &[&str]) -> bool {
 fn only_tuple(problem: Problem) -> Option<Tuple> {
     match problem {
         Problem::Reduce { tuple } => Some(tuple),
-        Problem::Decide { .. } | Problem::Straighten { .. } => None,
+        Problem::Decide { .. } | Problem::Straighten { .. } | Problem::Stabiliser { .. } => None,
     }
 }
 

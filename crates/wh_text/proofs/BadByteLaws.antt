@@ -116,6 +116,7 @@ both_other s t = cond_other (length s.words == length t.words) (Ok (decide s t))
 with_other : (command : Command) (s : Stated) → RefusesOther s.moves → RefusesOther (problem_with command s)
 with_other commands.Reduce s h = bind_other (one_tuple s.tuples) _ (one_other s.tuples) (λ t. tt)
 with_other commands.Decide s h = bind_other (two_tuples s.tuples) _ (two_other s.tuples) (λ p. both_other p.0 p.1)
+with_other commands.Stabiliser s h = bind_other (one_tuple s.tuples) _ (one_other s.tuples) (λ t. tt)
 with_other commands.Straighten s h = bind_other (one_tuple s.tuples) _ (one_other s.tuples) (λ t. bind_other s.moves (λ ms. Ok (straighten t ms)) h (λ ms. tt))
 
 -- the refusal of a text without moves is no bad byte

@@ -1,5 +1,5 @@
 -- The names of commands are told apart, and headings have them: for what is read of a heading.
-use Rattle.std.proofs.Common.{◌≡◌, ℕ, Bool, true, false, cond, List, [], ◌∷◌, map, refl, sym, ap, ◌∙◌, Option, Some, None, Ok, Err}
+use Rattle.std.proofs.Common.{◌≡◌, ◌⊎◌, inl, inr, ℕ, Bool, true, false, cond, List, [], ◌∷◌, map, refl, sym, ap, ◌∙◌, Option, Some, None, Ok, Err}
 use Rattle.std.specs.Prelude.{codes}
 use Rattle.std.proofs.lemmas.List.Elements.{All-nil, All-cons}
 use Rattle.std.proofs.lemmas.Bool.{cond-true}
@@ -18,16 +18,30 @@ named_back : (command : Command) → command_named (command_name command) ≡ So
 named_back commands.Reduce = refl
 named_back commands.Decide = refl
 named_back commands.Straighten = refl
+named_back commands.Stabiliser = refl
+
+-- the first command of two, where the name is its name, and else the second
+first_told : (name : List ℕ) (first command : Command) (rest : Option Command) → cond (are name (command_name first)) (Some first) rest ≡ Some command → (name ≡ command_name command) ⊎ (rest ≡ Some command)
+first_told name first command rest e = by (are name (command_name first)) refl e
+  where
+    by : (t : Bool) → are name (command_name first) ≡ t → cond t (Some first) rest ≡ Some command → (name ≡ command_name command) ⊎ (rest ≡ Some command)
+    by true is e = let same : first ≡ command = (cc) in inl (are_is name (command_name first) is ∙ ap command_name same)
+    by false is e = inr e
 
 named_told : (name : List ℕ) (command : Command) → command_named name ≡ Some command → name ≡ command_name command
-named_told name command e = by (are name (command_name commands.Reduce)) (are name (command_name commands.Decide)) (are name (command_name commands.Straighten)) refl refl refl e
-  where
-    by : (s t u : Bool) → are name (command_name commands.Reduce) ≡ s → are name (command_name commands.Decide) ≡ t → are name (command_name commands.Straighten) ≡ u →
-        cond s (Some commands.Reduce) (cond t (Some commands.Decide) (cond u (Some commands.Straighten) None)) ≡ Some command → name ≡ command_name command
-    by true t u a b c e = let same : commands.Reduce ≡ command = (cc) in are_is name (command_name commands.Reduce) a ∙ ap command_name same
-    by false true u a b c e = let same : commands.Decide ≡ command = (cc) in are_is name (command_name commands.Decide) b ∙ ap command_name same
-    by false false true a b c e = let same : commands.Straighten ≡ command = (cc) in are_is name (command_name commands.Straighten) c ∙ ap command_name same
-    by false false false a b c e = absurd (cc)
+named_told name command e = elim (first_told name commands.Reduce command _ e) [
+  | inl is ↦ is
+  | inr e ↦ elim (first_told name commands.Decide command _ e) [
+    | inl is ↦ is
+    | inr e ↦ elim (first_told name commands.Straighten command _ e) [
+      | inl is ↦ is
+      | inr e ↦ elim (first_told name commands.Stabiliser command None e) [
+        | inl is ↦ is
+        | inr never ↦ absurd (cc)
+      ]
+    ]
+  ]
+]
 
 command_back : (l : ℕ) (command : Command) → is_checked command ≡ true → command_at l (command_name command) ≡ Ok command
 command_back l command checked = ap (checked_command l (command_name command)) (named_back command) ∙ cond-true (is_checked command) (Ok command) (Err (errors.NoCertificate l)) checked
@@ -69,6 +83,7 @@ name_shown : (command : Command) → IsShown (command_name command)
 name_shown commands.Reduce = written_shown 114 (codes "educe") refl
 name_shown commands.Decide = written_shown 100 (codes "ecide") refl
 name_shown commands.Straighten = written_shown 115 (codes "traighten") refl
+name_shown commands.Stabiliser = written_shown 115 (codes "tabiliser") refl
 
 pub heading_shown : (command : Command) → IsShownRow (heading_row command)
 heading_shown command = record {

@@ -109,6 +109,7 @@ completes_told : (c : Command) (n : ℕ) → is_checked c ≡ true → 1 ≤ n �
 completes_told commands.Reduce n checked some h = completes_reduced n some h
 completes_told commands.Decide n checked some h = completes_decided n some h
 completes_told commands.Straighten n checked some h = absurd (cc)
+completes_told commands.Stabiliser n checked some h = absurd (cc)
 
 -- ---- the heading and the rank
 completes_heading : Completes heading_after (OneRow HeadingIs)
@@ -121,6 +122,7 @@ some_rank : (c : Command) → 1 ≤ greatest_rank c
 some_rank commands.Reduce = omega arith
 some_rank commands.Decide = omega arith
 some_rank commands.Straighten = omega arith
+some_rank commands.Stabiliser = omega arith
 
 completes_rank : (c : Command) → Completes (λ p. refused_as in_answer (rank_after c p)) (OneRow (RankIs c))
 unfolding rank_after line_after

@@ -262,6 +262,7 @@ abbrev pub Told : Command → ℕ → List Row → AnswerRead → Type 0
 Told commands.Reduce n = Reduced n
 Told commands.Decide n = Decided n
 Told commands.Straighten n = Untold
+Told commands.Stabiliser n = Untold
 
 exact_reduced : (n : ℕ) → n ≤ 26 → Exact (reduced_after n) (Reduced n)
 unfolding reduced_after
@@ -286,7 +287,12 @@ exact_decided n h =
     (λ t. exact_then (verdict_after n (length s.words)) (λ v. Ok (record { answer = decide s t v.0.verdict; heads = v.0.heads }, v.1)) (IsVerdictRead n (length s.words)) (λ v. Nothing (record { answer = decide s t v.verdict; heads = v.heads }))
     (exact_verdict n (length s.words) h) (λ v. exact_none (record { answer = decide s t v.verdict; heads = v.heads }))))
 
+-- answers that can't be checked
+exact_untold : Exact {A = AnswerRead} (λ p. Err (errors.NoCertificate 1)) Untold
+exact_untold = record { is = λ p q a some e. absurd (cc); back = λ p q a rows told passes. absurd told }
+
 pub exact_told : (c : Command) (n : ℕ) → n ≤ 26 → Exact (answer_with c n) (Told c n)
 exact_told commands.Reduce n h = exact_reduced n h
 exact_told commands.Decide n h = exact_decided n h
-exact_told commands.Straighten n h = record { is = λ p q a some e. absurd (cc); back = λ p q a rows told passes. absurd told }
+exact_told commands.Straighten n h = exact_untold
+exact_told commands.Stabiliser n h = exact_untold

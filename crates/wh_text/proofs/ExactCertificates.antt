@@ -23,7 +23,7 @@ use Rattle.wh_data.specs.declared.command.Command.TheVariants as commands
 use Rattle.wh_data.specs.Limits.{most_answer_bytes}
 use Rattle.wh_text.specs.RankLines.{greatest_rank, rank_at, no_rank, rank_after}
 use Rattle.wh_data.specs.AnswerData.{AnswerData, CertificateData}
-use Rattle.wh_data.specs.AnswerData.AnswerData.{reduce, decide, straighten}
+use Rattle.wh_data.specs.AnswerData.AnswerData.{reduce, decide, straighten, stabiliser}
 use Rattle.wh_data.specs.Commands.{command_name, is_checked, answer_version, heading_row}
 use Rattle.wh_data.specs.AnswerTexts.{verdict_row, done_row}
 use Rattle.wh_text.proofs.CommandNames.{heading_told, heading_back}
@@ -119,6 +119,7 @@ told_there : (c : Command) (n : ℕ) (rows : List Row) (x : AnswerRead) → 1 �
 told_there commands.Reduce n rows x least most s = reduced_there n rows x least most s
 told_there commands.Decide n rows x least most s = decided_there n rows x least most s
 told_there commands.Straighten n rows x least most s = absurd s
+told_there commands.Stabiliser n rows x least most s = absurd s
 
 pub body_there : (rows : List Row) (x : AnswerRead) → Body rows x → IsAnswerText (rows ++ done_row ∷ []) x.answer x.heads
 body_there rows x s =
@@ -186,6 +187,7 @@ body_again rows (decide s t v) heads is = (
   }),
 )
 body_again rows (straighten t given ms u) heads is = absurd is
+body_again rows (stabiliser t v) heads is = absurd is
 
 -- ---- the last line
 pub no_length_fields : (fs : List Field) → length fs ≡ 0 → map (λ f. f.bytes) fs ≡ []

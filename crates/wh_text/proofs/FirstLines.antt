@@ -29,7 +29,7 @@ use Rattle.wh_text.specs.RankLines.{greatest_rank, rank_at, rank_number, no_rank
 use Rattle.wh_data.specs.AnswerData.{CertificateData}
 use Rattle.wh_data.specs.AnswerData.VerdictData.{yes, no_length, no_level}
 use Rattle.wh_data.specs.AnswerData.AnswerData.{reduce, decide}
-use Rattle.wh_text.specs.Certificates.{in_answer, tuple_after, like_of, like_after, moves_after, flow_after, side_with, side_after, number_in, level_after, VerdictWord, verdict_in, sides_after, verdict_with, verdict_after, reduced_after, decided_after, answer_with, checked_command, command_at, heading_in, heading_after, done_after, answer_after, certificate}
+use Rattle.wh_text.specs.Certificates.{in_answer, tuple_after, like_of, like_after, moves_after, flow_after, side_with, side_after, number_in, level_after, VerdictWord, verdict_in, sides_after, verdict_with, verdict_after, AnswerRead, reduced_after, decided_after, answer_with, checked_command, command_at, heading_in, heading_after, done_after, answer_after, certificate}
 use Rattle.wh_text.specs.Certificates.VerdictWord.{a_yes, a_no_length, a_no_level}
 use Rattle.wh_text.specs.CertificateTexts.{IsCertificateText}
 use Rattle.wh_text.proofs.ExactCertificates.{body, finish, answer_split, certified, answer_back}
@@ -196,10 +196,15 @@ local_decided l n =
     (λ t. local_then l (verdict_after n (length s.words)) (λ v. Ok (record { answer = decide s t v.0.verdict; heads = v.0.heads }, v.1)) (local_verdict l n (length s.words))
     (λ v. local_none l (record { answer = decide s t v.verdict; heads = v.heads }))))
 
+-- answers that can't be checked
+local_refused : (l : ℕ) → Local {A = AnswerRead} l (λ p. Err (errors.NoCertificate 1))
+local_refused l = record { alike = λ p q h. refused (errors.NoCertificate 1) (errors.NoCertificate 1); far = λ p h same. absurd (cc) }
+
 local_told : (l : ℕ) (c : Command) (n : ℕ) → Local l (answer_with c n)
 local_told l commands.Reduce n = local_reduced l n
 local_told l commands.Decide n = local_decided l n
-local_told l commands.Straighten n = record { alike = λ p q h. refused (errors.NoCertificate 1) (errors.NoCertificate 1); far = λ p h same. absurd (cc) }
+local_told l commands.Straighten n = local_refused l
+local_told l commands.Stabiliser n = local_refused l
 
 -- ---- the heading and the rank
 pub heading_in_line : (m l : ℕ) (fs : List Field) → heading_in m fs ≡ Err (errors.BadLine l) → m ≡ l

@@ -200,6 +200,7 @@ answer_with_took : (command : Command) (n : ℕ) (p : Reading) (r : AnswerRead �
 answer_with_took commands.Reduce n p r small e = reduced_took n p r e
 answer_with_took commands.Decide n p r small e = decided_took n p r small e
 answer_with_took commands.Straighten n p r small e = absurd (cc)
+answer_with_took commands.Stabiliser n p r small e = absurd (cc)
 
 -- ---- the text
 heading_took : (p : Reading) (r : Command × Reading) → heading_after p ≡ Ok r → Took (λ _. Unit {0}) 1 p r

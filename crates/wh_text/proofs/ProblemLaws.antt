@@ -1,5 +1,5 @@
 -- A problem is read exactly from a text that states it: for the laws on whole texts.
-use Rattle.std.proofs.Common.{◌≡◌, ℕ, ◌≤◌, ltb, ◌==◌, true, false, List, [], ◌∷◌, length, map, sym, ap, ◌∙◌, refl, subst, arith, None, Some, Result, Ok, Err}
+use Rattle.std.proofs.Common.{◌≡◌, ℕ, ◌≤◌, ltb, ◌==◌, Bool, true, false, List, [], ◌∷◌, length, map, sym, ap, ◌∙◌, refl, subst, arith, None, Some, Result, Ok, Err}
 use Rattle.std.specs.Prelude.{codes, decimal}
 use Rattle.std.specs.declared.option.Option.{Option}
 use Rattle.std.proofs.lemmas.Bool.{cond-true, cond-false, eqb-true}
@@ -24,10 +24,10 @@ use Rattle.wh_data.specs.declared.command.Command.{Command}
 use Rattle.wh_data.specs.declared.command.Command.TheVariants as commands
 use Rattle.wh_text.specs.RankLines.{greatest_rank, rank_at, no_rank, rank_after}
 use Rattle.wh_data.specs.ProblemData.{ProblemData}
-use Rattle.wh_data.specs.ProblemData.ProblemData.{reduce, decide, straighten}
+use Rattle.wh_data.specs.ProblemData.ProblemData.{reduce, decide, straighten, stabiliser}
 use Rattle.wh_text.specs.Problems.{Stated, stated, takes_moves, one_tuple, two_tuples, decide_both, problem_with, problem_after, problem}
 use Rattle.wh_data.specs.Limits.{most_problem_bytes}
-use Rattle.wh_text.specs.Laws.{IsRankLine, IsTupleLine, IsMovesLine, IsReduceText, IsDecideText, IsStraightenText, ReadsReduceTexts, ReadsDecideTexts, ReadsStraightenTexts}
+use Rattle.wh_text.specs.Laws.{IsRankLine, IsTupleLine, IsMovesLine, IsTupleText, IsDecideText, IsStraightenText, ReadsReduceTexts, ReadsDecideTexts, ReadsStraightenTexts, ReadsStabiliserTexts}
 use Rattle.wh_text.proofs.RankLaws.{rank_within, rank_is, rank_back}
 use Rattle.wh_text.proofs.StatedRows.{IsTupleRow, IsGivenRow, moves_told, told_moves, StatedRows, stated_told, stated_again}
 use Rattle.wh_text.proofs.StatedRows.StatedRows.{none, last, more}
@@ -144,22 +144,24 @@ one_is [] t e = absurd (cc)
 one_is (u ∷ []) t e = ap (λ v. v ∷ []) (ok_is u t e)
 one_is (u ∷ v ∷ ts) t e = absurd (cc)
 
-with_one : (s : Stated) (t : TupleData) → problem_with commands.Reduce s ≡ Ok (reduce t) → s.tuples ≡ t ∷ []
-with_one s t e =
-    let p = bind_ok (one_tuple s.tuples) (λ u. Ok (reduce u)) (reduce t) e in
-    let same : p.0 ≡ t = (cc) in
-    one_is s.tuples t (p.1 ∙ ap (λ v. Ok v) same)
+-- the problem is that of its one tuple
+only_one : (ask : TupleData → ProblemData) (ts : List TupleData) (t : TupleData) → ((u : TupleData) → ask u ≡ ask t → u ≡ t) → (one_tuple ts >>= λ u. Ok (ask u)) ≡ Ok (ask t) → ts ≡ t ∷ []
+only_one ask ts t same e =
+    let p = bind_ok (one_tuple ts) (λ u. Ok (ask u)) (ask t) e in
+    one_is ts t (p.1 ∙ ap (λ v. Ok v) (same p.0 (ok_is (ask p.0) (ask t) p.2)))
 
 one_row : (n : ℕ) (rows : List Row) (t : TupleData) (moves : Option (List Move)) → StatedRows false n rows (t ∷ []) moves → (r : Row) × (rows ≡ r ∷ []) × IsTupleRow n r t
 one_row n rows t moves (more r _ is none) = (r, refl, is)
 one_row n rows t moves (more r _ is (last q ms taken given)) = absurd (cc)
 
-reduce_is : (bytes : List ℕ) (t : TupleData) → problem commands.Reduce bytes ≡ Ok (reduce t) → (length bytes ≤ most_problem_bytes) × IsReduceText bytes t
-reduce_is bytes t e =
-    let x = text_is commands.Reduce bytes (reduce t) e in
+tuple_is : (command : Command) (bytes : List ℕ) (p : ProblemData) (t : TupleData) → takes_moves command ≡ false → ((s : Stated) → problem_with command s ≡ Ok p → s.tuples ≡ t ∷ []) →
+    problem command bytes ≡ Ok p → (length bytes ≤ most_problem_bytes) × IsTupleText (greatest_rank command) bytes t
+tuple_is command bytes p t takes one e =
+    let x = text_is command bytes p e in
     let n = x.1 in
     let given = moves_told x.2.moves in
-    let d = one_row n x.3.rows t given (subst (λ (ts : List TupleData). StatedRows false n x.3.rows ts given) (with_one x.2 t x.4) x.3.stated) in
+    let stated = subst (λ (takes : Bool). StatedRows takes n x.3.rows x.2.tuples given) takes x.3.stated in
+    let d = one_row n x.3.rows t given (subst (λ (ts : List TupleData). StatedRows false n x.3.rows ts given) (one x.2 x.4) stated) in
     let ls = two_lines (kept_lines (lines bytes)) (codes "rank" ∷ decimal n ∷ []) (texts_of d.0) (x.3.have.texts ∙ ap (λ rs. (codes "rank" ∷ decimal n ∷ []) ∷ map texts_of rs) d.1) in
     let tuple = line_row n ls.1 d.0 t ls.4 d.2 in
     let rank : n ≡ t.rank = ap (λ v. v.rank) (sym tuple.cyclic) in (
@@ -176,10 +178,11 @@ reduce_is bytes t e =
       },
     )
 
-reduce_back : (bytes : List ℕ) (t : TupleData) → length bytes ≤ most_problem_bytes → IsReduceText bytes t → problem commands.Reduce bytes ≡ Ok (reduce t)
-reduce_back bytes t h x =
+tuple_back : (command : Command) (bytes : List ℕ) (p : ProblemData) (t : TupleData) → ((found : Result (List Move) ReadError) → problem_with command (record { tuples = t ∷ []; moves = found }) ≡ Ok p) →
+    length bytes ≤ most_problem_bytes → IsTupleText (greatest_rank command) bytes t → problem command bytes ≡ Ok p
+tuple_back command bytes p t asks h x =
     let row = tuple_row t.rank x.tuple_line t x.tuple in
-    text_back commands.Reduce bytes (reduce t) t.rank (t ∷ []) None h
+    text_back command bytes p t.rank (t ∷ []) None h
     (record {
       rows = row ∷ [];
       have = record {
@@ -189,10 +192,19 @@ reduce_back bytes t h x =
       least = x.least;
       greatest = x.greatest;
       stated = more row t (row_line t.rank x.tuple_line t x.tuple) none;
-    }) (λ found same. refl)
+    }) (λ found same. asks found)
 
 pub reads_reduce_texts : ReadsReduceTexts
-reads_reduce_texts bytes t = (reduce_is bytes t, λ p. reduce_back bytes t p.0 p.1)
+reads_reduce_texts bytes t = (
+  tuple_is commands.Reduce bytes (reduce t) t refl (λ s e. only_one reduce s.tuples t (λ u same. (cc)) e),
+  λ p. tuple_back commands.Reduce bytes (reduce t) t (λ found. refl) p.0 p.1,
+)
+
+pub reads_stabiliser_texts : ReadsStabiliserTexts
+reads_stabiliser_texts bytes t = (
+  tuple_is commands.Stabiliser bytes (stabiliser t) t refl (λ s e. only_one stabiliser s.tuples t (λ u same. (cc)) e),
+  λ p. tuple_back commands.Stabiliser bytes (stabiliser t) t (λ found. refl) p.0 p.1,
+)
 
 -- ---- two tuples
 two_are : (ts : List TupleData) (p : TupleData × TupleData) → two_tuples ts ≡ Ok p → ts ≡ p.0 ∷ p.1 ∷ []

@@ -24,6 +24,7 @@ pub rank_within : (command : Command) → greatest_rank command ≤ 26
 rank_within commands.Reduce = omega arith
 rank_within commands.Decide = omega arith
 rank_within commands.Straighten = omega arith
+rank_within commands.Stabiliser = omega arith
 
 number_is : (command : Command) (l n : ℕ) (o : Option ℕ) → rank_number command l o ≡ Ok n → (o ≡ Some n) × (1 ≤ n) × (n ≤ greatest_rank command)
 number_is command l n None e = absurd (cc)

@@ -12,7 +12,7 @@ use Rattle.wh_lines.specs.KeptLines.Rest.{end}
 use Rattle.wh_lines.specs.LineReadings.{Reading, end_of, end_after}
 use Rattle.wh_text.specs.RankLines.{greatest_rank, rank_at, no_rank, rank_after}
 use Rattle.wh_data.specs.AnswerData.{SideData, VerdictData, AnswerData}
-use Rattle.wh_data.specs.AnswerData.AnswerData.{reduce, decide, straighten}
+use Rattle.wh_data.specs.AnswerData.AnswerData.{reduce, decide, straighten, stabiliser}
 use Rattle.wh_text.specs.Certificates.{tuple_after, like_after, side_after, verdict_after, AnswerRead, reduced_after, decided_after, answer_with, heading_in, heading_after, in_answer, with_end, done_after, answer_after}
 use Rattle.wh_fields.specs.TupleFields.{IsTupleOf, words_row}
 use Rattle.wh_data.specs.AnswerParts.{IsSideOf, IsVerdictOf, IsCertificate, verdict_heads, heads_of}
@@ -126,3 +126,4 @@ answer_read (decide s t v) h =
     let few : s.rank ≤ 26 = omega (arith, h.2) in
     all_read commands.Decide s.rank (record { answer = decide s t v; heads = verdict_heads v }) (words_row (codes "first") s.words ∷ words_row (codes "second") t.words ∷ verdict_row v ∷ verdict_rows v) refl h.1 h.2 (decided_read s t v few h.0 h.3 h.4)
 answer_read (straighten t given ms u) h = absurd h
+answer_read (stabiliser t v) h = absurd h

@@ -16,7 +16,7 @@ use Rattle.wh_fields.specs.Laws.{IsMoveField, IsFlowLine}
 use Rattle.wh_data.specs.Limits.{most_answer_bytes}
 use Rattle.wh_data.specs.AnswerData.{SideData, VerdictData, AnswerData, CertificateData}
 use Rattle.wh_data.specs.AnswerData.VerdictData.{yes, no_length, no_level, undecided}
-use Rattle.wh_data.specs.AnswerData.AnswerData.{reduce, decide, straighten}
+use Rattle.wh_data.specs.AnswerData.AnswerData.{reduce, decide, straighten, stabiliser}
 use Rattle.wh_data.specs.declared.command.Command.TheVariants as commands
 use Rattle.wh_data.specs.Commands.{heading_row}
 use Rattle.wh_data.specs.AnswerTexts.{verdict_row, done_row}
@@ -106,6 +106,7 @@ IsAnswerText rows (decide s t v) heads =
     × IsTupleRow (codes "first") s.rank first_row s × IsLikeRow (codes "second") s.rank (length s.words) second_row t
     × IsVerdictText s.rank (length s.words) after v heads
 IsAnswerText rows (straighten t given ms end) heads = ⊥
+IsAnswerText rows (stabiliser t v) heads = ⊥
 
 -- The text is a certificate: no byte of it is bad, its lines that aren't skipped are these rows, whatever spaces stand between their fields, and its numbers are those of these lines.
 pub record IsCertificateText (bytes : List ℕ) (c : CertificateData) : Type 0 where

@@ -210,6 +210,7 @@ abbrev pub answer_with : Command → ℕ → Reading → Result (AnswerRead × R
 answer_with commands.Reduce n p = reduced_after n p
 answer_with commands.Decide n p = decided_after n p
 answer_with commands.Straighten n p = Err (errors.NoCertificate 1)
+answer_with commands.Stabiliser n p = Err (errors.NoCertificate 1)
 
 -- The command of a name in line l. Answers of other commands are no certificates.
 abbrev pub checked_command : ℕ → List ℕ → Option Command → Result Command ReadError

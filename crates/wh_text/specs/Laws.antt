@@ -1,7 +1,7 @@
 -- The laws of reading, in the words of what is written: what is read is spelled so, and what is spelled so is read.
 use Rattle.std.specs.Prelude.{◌≡◌, ℕ, ◌+◌, ◌≤◌, ◌↔◌, false, List, [], ◌∷◌, ◌++◌, length, map, Ok, Err, decimal, codes}
 use Rattle.std.specs.List.{All, sum_by}
-use Rattle.wh_words.specs.Limits.{most_rank, most_level_rank, most_words, most_letters}
+use Rattle.wh_words.specs.Limits.{most_rank, most_level_rank, most_stabiliser_rank, most_words, most_letters}
 use Rattle.wh_words.specs.Words.{IsOfRank}
 use Rattle.wh_words.specs.CyclicWords.{cyclic_word}
 use Rattle.wh_words.specs.Tuples.{TupleData}
@@ -11,7 +11,7 @@ use Rattle.wh_data.specs.declared.command.Command.TheVariants as commands
 use Rattle.wh_lines.specs.declared.read_error.ReadError.TheVariants as errors
 use Rattle.wh_lines.specs.Lines.{lines, is_allowed}
 use Rattle.wh_fields.specs.Words.{word_text}
-use Rattle.wh_data.specs.ProblemData.ProblemData.{reduce, decide, straighten}
+use Rattle.wh_data.specs.ProblemData.ProblemData.{reduce, decide, straighten, stabiliser}
 use Rattle.wh_text.specs.Problems.{problem}
 use Rattle.wh_text.specs.CertificateTexts.{AreMoveFields}
 use Rattle.wh_data.specs.Limits.{most_problem_bytes, most_given_moves}
@@ -30,16 +30,24 @@ pub record IsTupleLine (n : ℕ) (line : List ℕ) (t : TupleData) : Type 0 wher
   pub short : sum_by length written ≤ most_letters
   pub cyclic : t ≡ record { rank = n; words = map cyclic_word written }
 
--- The text states a problem of `reduce`: its kept lines are a line with a rank, and a line with the tuple.
-pub record IsReduceText (bytes : List ℕ) (t : TupleData) : Type 0 where
+-- The text states a problem of one tuple: its kept lines are a line with a rank, which is no greater than the command allows, and a line with the tuple.
+pub record IsTupleText (greatest_rank : ℕ) (bytes : List ℕ) (t : TupleData) : Type 0 where
   pub clean : All IsClean (lines bytes)
   pub rank_line : List ℕ
   pub tuple_line : List ℕ
   pub kept : kept_lines (lines bytes) ≡ rank_line ∷ tuple_line ∷ []
   pub rank : IsRankLine t.rank rank_line
   pub least : 1 ≤ t.rank
-  pub greatest : t.rank ≤ most_rank
+  pub greatest : t.rank ≤ greatest_rank
   pub tuple : IsTupleLine t.rank tuple_line t
+
+-- The text states a problem of `reduce`.
+abbrev pub IsReduceText : List ℕ → TupleData → Type 0
+IsReduceText bytes t = IsTupleText most_rank bytes t
+
+-- The text states a problem of `stabiliser`.
+abbrev pub IsStabiliserText : List ℕ → TupleData → Type 0
+IsStabiliserText bytes t = IsTupleText most_stabiliser_rank bytes t
 
 -- The text states a problem of `decide`: its kept lines are a line with a rank that is low enough for levels, and a line for each of the two tuples, which have equally many words.
 pub record IsDecideText (bytes : List ℕ) (s t : TupleData) : Type 0 where
@@ -86,6 +94,10 @@ ReadsDecideTexts = (bytes : List ℕ) (s t : TupleData) → (problem commands.De
 -- A problem of `straighten` is read exactly from a text that states it and isn't too long.
 abbrev pub ReadsStraightenTexts : Type 0
 ReadsStraightenTexts = (bytes : List ℕ) (t : TupleData) (ms : List Move) → (problem commands.Straighten bytes ≡ Ok (straighten t ms)) ↔ ((length bytes ≤ most_problem_bytes) × IsStraightenText bytes t ms)
+
+-- A problem of `stabiliser` is read exactly from a text that states it and isn't too long.
+abbrev pub ReadsStabiliserTexts : Type 0
+ReadsStabiliserTexts = (bytes : List ℕ) (t : TupleData) → (problem commands.Stabiliser bytes ≡ Ok (stabiliser t)) ↔ ((length bytes ≤ most_problem_bytes) × IsStabiliserText bytes t)
 
 -- Line l is the first with a byte that may not stand there, and the leftmost such byte has this column.
 pub record IsFirstBadByte (bytes : List ℕ) (l column : ℕ) : Type 0 where

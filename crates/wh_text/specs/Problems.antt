@@ -15,7 +15,7 @@ use Rattle.wh_fields.specs.MoveFields.{moves_at}
 use Rattle.wh_data.specs.declared.command.Command.{Command}
 use Rattle.wh_data.specs.declared.command.Command.TheVariants as commands
 use Rattle.wh_data.specs.ProblemData.{ProblemData}
-use Rattle.wh_data.specs.ProblemData.ProblemData.{reduce, decide, straighten}
+use Rattle.wh_data.specs.ProblemData.ProblemData.{reduce, decide, straighten, stabiliser}
 use Rattle.wh_text.specs.RankLines.{rank_after}
 
 -- ---- the lines
@@ -68,6 +68,7 @@ abbrev pub takes_moves : Command → Bool
 takes_moves commands.Reduce = false
 takes_moves commands.Decide = false
 takes_moves commands.Straighten = true
+takes_moves commands.Stabiliser = false
 
 -- ---- the text
 -- The one tuple of a problem that has one.
@@ -96,6 +97,7 @@ abbrev pub problem_with : Command → Stated → Result ProblemData ReadError
 problem_with commands.Reduce s = one_tuple s.tuples >>= λ t. Ok (reduce t)
 problem_with commands.Decide s = two_tuples s.tuples >>= λ p. decide_both p.0 p.1
 problem_with commands.Straighten s = one_tuple s.tuples >>= λ t. straighten_by t s.moves
+problem_with commands.Stabiliser s = one_tuple s.tuples >>= λ t. Ok (stabiliser t)
 
 -- The problem of a command that the lines of a text state, or the first refusal: the lines in order, then the whole.
 unfoldable pub problem_after : Command → Reading → Result ProblemData ReadError

@@ -8,13 +8,14 @@ use Rattle.wh_lines.specs.Numbers.{number}
 use Rattle.wh_lines.specs.LineReadings.{Reading, line_after}
 use Rattle.wh_data.specs.declared.command.Command.{Command}
 use Rattle.wh_data.specs.declared.command.Command.TheVariants as commands
-use Rattle.wh_words.specs.Limits.{most_rank, most_level_rank}
+use Rattle.wh_words.specs.Limits.{most_rank, most_level_rank, most_stabiliser_rank}
 
 -- The greatest rank of a command's problems.
 abbrev pub greatest_rank : Command → ℕ
 greatest_rank commands.Reduce = most_rank
 greatest_rank commands.Decide = most_level_rank
 greatest_rank commands.Straighten = most_rank
+greatest_rank commands.Stabiliser = most_stabiliser_rank
 
 -- A rank that the command allows.
 abbrev pub allowed_rank : Command → ℕ → Result ℕ ReadError

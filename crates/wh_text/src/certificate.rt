@@ -164,6 +164,7 @@ fn answer_with(
         Command::Reduce => reduced_after(alloc, rank, reader),
         Command::Decide => decided_after(alloc, rank, reader),
         Command::Straighten => Err(ReadError::NoCertificate { line: 1 }),
+        Command::Stabiliser => Err(ReadError::NoCertificate { line: 1 }),
     }
 }
 

@@ -1,7 +1,7 @@
 //! Laws of reading, each the contract of an empty function.
 ghost use Rattle.wh_text.specs.ReadingBack.{ReadsBack};
 ghost use Rattle.wh_text.specs.CertificateTexts.{ReadsCertificates, NamesTheFirstBadLine};
-ghost use Rattle.wh_text.specs.Laws.{ReadsReduceTexts, ReadsDecideTexts, ReadsStraightenTexts, NamesTheFirstBadByte};
+ghost use Rattle.wh_text.specs.Laws.{ReadsReduceTexts, ReadsDecideTexts, ReadsStraightenTexts, ReadsStabiliserTexts, NamesTheFirstBadByte};
 
 /// A text is accepted exactly where it is spelled as a problem of `reduce`.
 pub fn reduce_texts()
@@ -16,6 +16,11 @@ pub fn decide_texts()
 /// A text is accepted exactly where it is spelled as a problem of `straighten`.
 pub fn straighten_texts()
     ensures { ReadsStraightenTexts }
+{}
+
+/// A text is accepted exactly where it is spelled as a problem of `stabiliser`.
+pub fn stabiliser_texts()
+    ensures { ReadsStabiliserTexts }
 {}
 
 /// A refusal of a byte names the first line that has a bad one, and the leftmost in it.

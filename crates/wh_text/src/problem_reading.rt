@@ -123,6 +123,7 @@ fn takes_moves(command: Command) -> bool
         Command::Reduce => false,
         Command::Decide => false,
         Command::Straighten => true,
+        Command::Stabiliser => false,
     }
 }
 
@@ -204,6 +205,9 @@ fn problem_with(command: Command, stated: Stated) -> Result<Problem, ReadError>
             decide_both(first, second)
         }
         Command::Straighten => straighten_moves(one_tuple(tuples)?, moves),
+        Command::Stabiliser => Ok(Problem::Stabiliser {
+            tuple: one_tuple(tuples)?,
+        }),
     }
 }
 

@@ -7,7 +7,7 @@ ghost use Rattle.wh_text.specs.RankLines as spec;
 
 use wh_data::Command;
 use wh_lines::{Field, Kept, ReadError, Reader, canonical_number};
-use wh_words::{MOST_LEVEL_RANK, MOST_RANK, Rank};
+use wh_words::{MOST_LEVEL_RANK, MOST_RANK, MOST_STABILISER_RANK, Rank};
 
 /// The greatest rank of a command's problems.
 fn greatest_rank(command: Command) -> u64
@@ -17,6 +17,7 @@ fn greatest_rank(command: Command) -> u64
         Command::Reduce => MOST_RANK as u64,
         Command::Decide => MOST_LEVEL_RANK as u64,
         Command::Straighten => MOST_RANK as u64,
+        Command::Stabiliser => MOST_STABILISER_RANK as u64,
     }
 }
 

@@ -1,4 +1,4 @@
--- What is told is so: of two tuples that are decided, and of a text that is told valid.
+-- What is told is so: of two tuples that are decided, of a stabiliser that is made, and of a text that is told valid.
 use Rattle.std.proofs.Common.{◌≡◌, ℕ, ◌≤◌, List, [], refl, sym, ap, ◌∙◌, subst, arith, Some, Ok}
 use Rattle.std.specs.Prelude.{codes}
 use Rattle.clap.specs.Words.{Text}
@@ -10,11 +10,17 @@ use Rattle.wh_lines.proofs.Equations.{ok_is}
 use Rattle.wh_data.specs.declared.command.Command.{Command}
 use Rattle.wh_data.specs.declared.command.Command.TheVariants as commands
 use Rattle.wh_data.specs.declared.answer.Answer as answers
-use Rattle.wh_data.specs.declared.answer.Answer.TheVariants.{Reduce, Decide, Straighten}
+use Rattle.wh_data.specs.declared.answer.Answer.TheVariants.{Reduce, Decide, Straighten, Stabiliser}
 use Rattle.wh_data.specs.declared.answer.Verdict as verdicts
 use Rattle.wh_data.specs.ProblemData.{ProblemData}
 use Rattle.wh_text.specs.Problems.{problem}
-use Rattle.wh_data.specs.ProblemData.ProblemData.{decide}
+use Rattle.wh_data.specs.ProblemData.ProblemData.{decide, stabiliser}
+use Rattle.wh_data.specs.declared.answer.StabVerdict.TheVariants as stabs
+use Rattle.wh_data.specs.AnswerData.{side_of, parts_of, answer_of}
+use Rattle.wh_data.specs.AnswerData.StabVerdictData.{done as made}
+use Rattle.wh_data.specs.AnswerData.AnswerData.{stabiliser as stabiliser_answer}
+use Rattle.wh_data.specs.AnswerTexts.{answer_text}
+use Rattle.wh_answer.proofs.TrueStabilisers.{stab_says}
 use Rattle.wh_data.specs.Statuses.{verdict_status, answer_status}
 use Rattle.wh_nielsen.proofs.Generation.{trace_ends_tell_what_is_carried, no_automorphism, no_automorphism_changes}
 use Rattle.wh_answer.specs.Answers.{Decides, Answers}
@@ -31,7 +37,7 @@ use Rattle.whitehead.specs.Replies.Replies.{refused, answered, too_long, unread,
 use Rattle.whitehead.specs.Asked.{asked}
 use Rattle.whitehead.specs.Outcome.{Told}
 use Rattle.whitehead.specs.Outcome.Told.{words_refused, replied}
-use Rattle.whitehead.specs.Meanings.{SaysOf, IsShown}
+use Rattle.whitehead.specs.Meanings.{SaysOf, TellsStabiliser, IsShown}
 use Rattle.whitehead.specs.Laws.{AskCheck, ToldIsTrue, ValidIsShown}
 use Rattle.whitehead.proofs.ReadProblems.{read_problem}
 use Rattle.whitehead.proofs.ReadTuples.{certificate_tuples}
@@ -78,6 +84,7 @@ answer_says limit bytes s t p a read own is = by a (subst (λ (q : ProblemData).
     by : (x : answers.Answer) → Answers limit (decide s t) x → SaysOf (answer_status x) s t
     by (Reduce tuple side) wrong = absurd wrong
     by (Straighten tuple given ms end) wrong = absurd wrong
+    by (Stabiliser tuple verdict) wrong = absurd wrong
     by (Decide first second v) right = verdict_says limit s t v known.0 known.1 known.2 (omega (arith, known.4)) right.2.0
 
 reply_says : (limit : ℕ) (bytes text : List ℕ) (task : Task) (status : Status) (s t : TupleData) → task ≡ tasks.Answer commands.Decide → problem commands.Decide bytes ≡ Ok (decide s t) → Replies limit bytes task status text → SaysOf status s t
@@ -95,8 +102,43 @@ told_says words bytes text status a s t asked is read (replied {a = b} r reply) 
     let same : b ≡ a = (cc) in
     reply_says b.limit bytes text b.task status s t (ap (λ (v : Arguments). v.task) same ∙ is) read reply
 
+-- ---- a stabiliser that is made
+answer_presents : (limit : ℕ) (bytes : List ℕ) (t : TupleData) (p : ProblemData) (a : answers.Answer) → problem commands.Stabiliser bytes ≡ Ok (stabiliser t) → problem commands.Stabiliser bytes ≡ Ok p → Answers limit p a → answer_status a ≡ Done →
+    TellsStabiliser t (answer_text (answer_of a))
+answer_presents limit bytes t p a read own is = by a (subst (λ (q : ProblemData). Answers limit q a) (sym (ok_is (stabiliser t) p (sym read ∙ own))) is)
+  where
+    by : (x : answers.Answer) → Answers limit (stabiliser t) x → answer_status x ≡ Done → TellsStabiliser t (answer_text (answer_of x))
+    by (Reduce tuple side) wrong ends = absurd wrong
+    by (Straighten tuple given ms end) wrong ends = absurd wrong
+    by (Decide first second v) wrong ends = absurd wrong
+    by (Stabiliser tuple (stabs.Undecided bound)) right ends = absurd (cc)
+    by (Stabiliser tuple (stabs.Done s q)) right ends = record {
+      side = side_of s;
+      parts = parts_of q;
+      told = ap (λ (u : TupleData). answer_text (stabiliser_answer u (made (side_of s) (parts_of q)))) right.0;
+      presents = stab_says limit t (stabs.Done s q) right.1;
+    }
+
+reply_presents : (limit : ℕ) (bytes text : List ℕ) (task : Task) (status : Status) (t : TupleData) → task ≡ tasks.Answer commands.Stabiliser → problem commands.Stabiliser bytes ≡ Ok (stabiliser t) → status ≡ Done → Replies limit bytes task status text →
+    TellsStabiliser t text
+reply_presents limit bytes text task status t is read ends (refused r) = absurd (cc)
+reply_presents limit bytes text task status t is read ends (answered {command = command} {p = p} a r q) =
+    let same : command ≡ commands.Stabiliser = (cc) in
+    answer_presents limit bytes t p a read (subst (λ (c : Command). problem c bytes ≡ Ok p) same r) q ends
+reply_presents limit bytes text task status t is read ends (too_long r long) = absurd (cc)
+reply_presents limit bytes text task status t is read ends (unread r) = absurd (cc)
+reply_presents limit bytes text task status t is read ends (checked found r q) = absurd (cc)
+
+told_presents : (words : List Text) (bytes text : List ℕ) (status : Status) (a : Arguments) (t : TupleData) → asked words ≡ Some a → a.task ≡ tasks.Answer commands.Stabiliser → problem commands.Stabiliser bytes ≡ Ok (stabiliser t) → status ≡ Done →
+    Told words bytes status text → TellsStabiliser t text
+told_presents words bytes text status a t asked is read ends (words_refused r) = absurd (cc)
+told_presents words bytes text status a t asked is read ends (replied {a = b} r reply) =
+    let same : b ≡ a = (cc) in
+    reply_presents b.limit bytes text b.task status t (ap (λ (v : Arguments). v.task) same ∙ is) read ends reply
+
 pub told_is_true : ToldIsTrue
 told_is_true words bytes text status told = record {
   decided = λ a s t asked is read. told_says words bytes text status a s t asked is read told;
+  presented = λ a t asked is read ends. told_presents words bytes text status a t asked is read ends told;
   checked = λ a asked check done. told_shown words bytes text status (a, asked, check) done told;
 }

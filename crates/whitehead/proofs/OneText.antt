@@ -9,9 +9,9 @@ use Rattle.wh_data.specs.declared.status.Status.{Status}
 use Rattle.wh_data.specs.declared.command.Command.{Command}
 use Rattle.wh_data.specs.declared.command.Command.TheVariants as commands
 use Rattle.wh_data.specs.declared.answer.Answer as answers
-use Rattle.wh_data.specs.declared.answer.Answer.TheVariants.{Reduce, Decide, Straighten}
+use Rattle.wh_data.specs.declared.answer.Answer.TheVariants.{Reduce, Decide, Straighten, Stabiliser}
 use Rattle.wh_data.specs.ProblemData.{ProblemData}
-use Rattle.wh_data.specs.ProblemData.ProblemData.{reduce, decide, straighten}
+use Rattle.wh_data.specs.ProblemData.ProblemData.{reduce, decide, straighten, stabiliser}
 use Rattle.wh_text.specs.Problems.{problem}
 use Rattle.wh_text.specs.RefusalTexts.{refusal_text}
 use Rattle.wh_answer.specs.Answers.{Answers}
@@ -44,12 +44,15 @@ asks_for_one command (decide s t) is other = tt
 asks_for_one commands.Reduce (straighten t list) is other = absurd is
 asks_for_one commands.Decide (straighten t list) is other = absurd is
 asks_for_one commands.Straighten (straighten t list) is other = other refl
+asks_for_one commands.Stabiliser (straighten t list) is other = absurd is
+asks_for_one command (stabiliser t) is other = tt
 
 -- a list that is answered fits on its way
 answered_fits : (limit : ℕ) (t : TupleData) (list : List Move) (a : answers.Answer) → Answers limit (straighten t list) a → FitsOnTheWay t list
 answered_fits limit t list (Reduce u side) is = absurd is
 answered_fits limit t list (Decide s u v) is = absurd is
 answered_fits limit t list (Straighten u given ms end) is = is.2.fits
+answered_fits limit t list (Stabiliser u v) is = absurd is
 
 not_both : (limit : ℕ) (bytes : List ℕ) (p : ProblemData) (a : answers.Answer) (t : TupleData) (list : List Move) (place length : ℕ) → problem commands.Straighten bytes ≡ Ok p → Answers limit p a → problem commands.Straighten bytes ≡ Ok (straighten t list) →
     IsFirstTooLong t list place length → ⊥

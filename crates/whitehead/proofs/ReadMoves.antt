@@ -8,7 +8,7 @@ use Rattle.wh_lines.specs.Rows.{Row}
 use Rattle.wh_fields.proofs.MoveLaws.{spelled_kind}
 use Rattle.wh_data.specs.AnswerData.{SideData, VerdictData, AnswerData, CertificateData}
 use Rattle.wh_data.specs.AnswerData.VerdictData.{yes, no_length, no_level, undecided}
-use Rattle.wh_data.specs.AnswerData.AnswerData.{reduce, decide, straighten}
+use Rattle.wh_data.specs.AnswerData.AnswerData.{reduce, decide, straighten, stabiliser}
 use Rattle.wh_text.specs.Certificates.{certificate}
 use Rattle.wh_text.specs.CertificateTexts.{AreMoveFields, IsMovesRow, IsSideText, IsVerdictText, IsAnswerText}
 use Rattle.wh_text.proofs.ExactCertificates.{reads_certificates}
@@ -43,6 +43,7 @@ answer_moves : (rows : List Row) (a : AnswerData) (heads : List (ℕ × ℕ)) �
 answer_moves rows (reduce t s) heads told = side_moves t.rank (length t.words) told.1 s heads told.4 told.6
 answer_moves rows (decide s t v) heads told = verdict_moves s.rank (length s.words) told.2 v heads (omega (arith, told.5)) told.8
 answer_moves rows (straighten t given ms end) heads told = absurd told
+answer_moves rows (stabiliser t v) heads told = absurd told
 
 pub certificate_moves : (bytes : List ℕ) (c : CertificateData) → certificate bytes ≡ Ok c → HasMoves c.answer
 certificate_moves bytes c e = let text = ((reads_certificates bytes c).0 e).1 in answer_moves text.rows c.answer c.flow_heads text.told

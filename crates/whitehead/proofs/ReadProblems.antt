@@ -12,10 +12,10 @@ use Rattle.wh_text.specs.RankLines.{rank_after}
 use Rattle.wh_data.specs.ProblemData.{ProblemData}
 use Rattle.wh_text.specs.Problems.{problem, problem_after, problem_with, Stated, stated, takes_moves, one_tuple, two_tuples, decide_both, straighten_by}
 use Rattle.wh_data.specs.Limits.{most_problem_bytes}
-use Rattle.wh_data.specs.ProblemData.ProblemData.{reduce, decide, straighten}
+use Rattle.wh_data.specs.ProblemData.ProblemData.{reduce, decide, straighten, stabiliser}
 use Rattle.wh_text.specs.Laws.{IsTupleLine}
 use Rattle.wh_lines.proofs.Equations.{bind_ok, ok_is, if_ok, unless_ok}
-use Rattle.wh_text.proofs.ProblemLaws.{reads_reduce_texts, reads_decide_texts, reads_straighten_texts}
+use Rattle.wh_text.proofs.ProblemLaws.{reads_reduce_texts, reads_decide_texts, reads_straighten_texts, reads_stabiliser_texts}
 use Rattle.wh_answer.specs.Answers.{IsAnswerable}
 use Rattle.wh_answer.specs.Laws.{IsProblem}
 use Rattle.whitehead.proofs.ReadMoves.{fields_moves}
@@ -31,12 +31,19 @@ abbrev pub IsOf : Command → ProblemData → Type 0
 IsOf commands.Reduce (reduce t) = Unit {0}
 IsOf commands.Reduce (decide s t) = ⊥
 IsOf commands.Reduce (straighten t list) = ⊥
+IsOf commands.Reduce (stabiliser t) = ⊥
 IsOf commands.Decide (reduce t) = ⊥
 IsOf commands.Decide (decide s t) = Unit {0}
 IsOf commands.Decide (straighten t list) = ⊥
+IsOf commands.Decide (stabiliser t) = ⊥
 IsOf commands.Straighten (reduce t) = ⊥
 IsOf commands.Straighten (decide s t) = ⊥
 IsOf commands.Straighten (straighten t list) = Unit {0}
+IsOf commands.Straighten (stabiliser t) = ⊥
+IsOf commands.Stabiliser (reduce t) = ⊥
+IsOf commands.Stabiliser (decide s t) = ⊥
+IsOf commands.Stabiliser (straighten t list) = ⊥
+IsOf commands.Stabiliser (stabiliser t) = Unit {0}
 
 made_of : (command : Command) (s : Stated) (p : ProblemData) → problem_with command s ≡ Ok p → IsOf command p
 made_of commands.Reduce s p e =
@@ -50,6 +57,9 @@ made_of commands.Straighten s p e =
     let one = bind_ok (one_tuple s.tuples) (λ t. straighten_by t s.moves) p e in
     let given = bind_ok s.moves (λ ms. Ok (straighten one.0 ms)) p one.2 in
     subst (IsOf commands.Straighten) (ok_is (straighten one.0 given.0) p given.2) tt
+made_of commands.Stabiliser s p e =
+    let one = bind_ok (one_tuple s.tuples) (λ t. Ok (stabiliser t)) p e in
+    subst (IsOf commands.Stabiliser) (ok_is (stabiliser one.0) p one.2) tt
 
 pub of_command : (command : Command) (bytes : List ℕ) (p : ProblemData) → problem command bytes ≡ Ok p → IsOf command p
 unfolding problem problem_after
@@ -65,6 +75,13 @@ pub read_problem : (command : Command) (bytes : List ℕ) (p : ProblemData) → 
 read_problem commands.Reduce bytes (reduce t) e = let r = ((reads_reduce_texts bytes t).0 e).1 in (line_tuple t.rank r.tuple_line t r.tuple, r.least, r.greatest)
 read_problem commands.Reduce bytes (decide s t) e = absurd (of_command commands.Reduce bytes (decide s t) e)
 read_problem commands.Reduce bytes (straighten t list) e = absurd (of_command commands.Reduce bytes (straighten t list) e)
+read_problem commands.Reduce bytes (stabiliser t) e = absurd (of_command commands.Reduce bytes (stabiliser t) e)
+read_problem commands.Decide bytes (stabiliser t) e = absurd (of_command commands.Decide bytes (stabiliser t) e)
+read_problem commands.Straighten bytes (stabiliser t) e = absurd (of_command commands.Straighten bytes (stabiliser t) e)
+read_problem commands.Stabiliser bytes (reduce t) e = absurd (of_command commands.Stabiliser bytes (reduce t) e)
+read_problem commands.Stabiliser bytes (decide s t) e = absurd (of_command commands.Stabiliser bytes (decide s t) e)
+read_problem commands.Stabiliser bytes (straighten t list) e = absurd (of_command commands.Stabiliser bytes (straighten t list) e)
+read_problem commands.Stabiliser bytes (stabiliser t) e = let r = ((reads_stabiliser_texts bytes t).0 e).1 in (line_tuple t.rank r.tuple_line t r.tuple, r.least, r.greatest)
 read_problem commands.Decide bytes (reduce t) e = absurd (of_command commands.Decide bytes (reduce t) e)
 read_problem commands.Decide bytes (straighten t list) e = absurd (of_command commands.Decide bytes (straighten t list) e)
 read_problem commands.Decide bytes (decide s t) e =
@@ -86,3 +103,4 @@ pub straighten_of : (command : Command) (bytes : List ℕ) (t : TupleData) (list
 straighten_of commands.Reduce bytes t list e = absurd (of_command commands.Reduce bytes (straighten t list) e)
 straighten_of commands.Decide bytes t list e = absurd (of_command commands.Decide bytes (straighten t list) e)
 straighten_of commands.Straighten bytes t list e = refl
+straighten_of commands.Stabiliser bytes t list e = absurd (of_command commands.Stabiliser bytes (straighten t list) e)

@@ -126,6 +126,7 @@ answer_with_told : (command : Command) (n : ℕ) (p : Reading) (r : AnswerRead �
 answer_with_told commands.Reduce n p r h e = reduced_told n p r h e
 answer_with_told commands.Decide n p r h e = decided_told n p r (omega (arith, h)) e
 answer_with_told commands.Straighten n p r h e = absurd (cc)
+answer_with_told commands.Stabiliser n p r h e = absurd (cc)
 
 rank_told : (command : Command) (p : Reading) (r : ℕ × Reading) → rank_after command p ≡ Ok r → r.0 ≤ greatest_rank command
 unfolding rank_after

@@ -6,11 +6,13 @@ use Rattle.wh_io.specs.Device.{Consumed}
 use Rattle.wh_data.specs.declared.status.Status.{Status}
 use Rattle.wh_data.specs.declared.status.Status.TheVariants.{Done, No, Refused, Undecided, ReadFault, WriteFault, OutOfMemory}
 use Rattle.wh_data.specs.declared.answer.Answer.{Answer}
-use Rattle.wh_data.specs.declared.answer.Answer.TheVariants.{Reduce, Decide, Straighten}
+use Rattle.wh_data.specs.declared.answer.Answer.TheVariants.{Reduce, Decide, Straighten, Stabiliser}
 use Rattle.wh_data.specs.declared.answer.Verdict.{Verdict}
 use Rattle.wh_data.specs.declared.answer.Verdict.TheVariants.{Yes, NoLength, NoLevel}
 use Rattle.wh_data.specs.declared.answer.Verdict.TheVariants as verdicts
-use Rattle.wh_data.specs.Statuses.{verdict_status, answer_status}
+use Rattle.wh_data.specs.declared.answer.StabVerdict.{StabVerdict}
+use Rattle.wh_data.specs.declared.answer.StabVerdict.TheVariants as stabs
+use Rattle.wh_data.specs.Statuses.{verdict_status, stab_status, answer_status}
 use Rattle.wh_cert.specs.declared.checked.Checked.{Checked}
 use Rattle.wh_cert.specs.declared.checked.Checked.TheVariants.{Valid, Invalid}
 use Rattle.whitehead.specs.Endings.{Finished}
@@ -36,10 +38,15 @@ verdict_ends (NoLength a b) = tt
 verdict_ends (NoLevel a b ts) = tt
 verdict_ends (verdicts.Undecided bound) = tt
 
+stab_ends : (v : StabVerdict) → IsToldStatus (stab_status v)
+stab_ends (stabs.Done s p) = tt
+stab_ends (stabs.Undecided bound) = tt
+
 answers_end : (x : Answer) → IsToldStatus (answer_status x)
 answers_end (Reduce t side) = tt
 answers_end (Decide s t v) = verdict_ends v
 answers_end (Straighten t given ms end) = tt
+answers_end (Stabiliser t v) = stab_ends v
 
 checks_end : (found : Checked) → IsToldStatus (checked_status found)
 checks_end Valid = tt

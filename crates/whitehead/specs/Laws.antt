@@ -40,7 +40,7 @@ AnswersAreValid = (words others : List Text) (bytes text : List ℕ) (status : S
 
 -- Whatever is told is so.
 abbrev pub ToldIsTrue : Type 0
-ToldIsTrue = (words : List Text) (bytes text : List ℕ) (status : Status) → Told words bytes status text → IsTrue words bytes status
+ToldIsTrue = (words : List Text) (bytes text : List ℕ) (status : Status) → Told words bytes status text → IsTrue words bytes status text
 
 -- Whatever text is told valid, whoever wrote it, shows what it says.
 abbrev pub ValidIsShown : Type 0

@@ -6,11 +6,15 @@ use Rattle.wh_data.specs.declared.status.Status.{Status}
 use Rattle.wh_data.specs.declared.status.Status.TheVariants.{Done, No, Refused, Undecided, ReadFault, WriteFault, OutOfMemory}
 use Rattle.wh_data.specs.declared.command.Command.TheVariants as commands
 use Rattle.wh_text.specs.Problems.{problem}
-use Rattle.wh_data.specs.ProblemData.ProblemData.{decide}
-use Rattle.wh_data.specs.AnswerData.{CertificateData}
+use Rattle.wh_data.specs.ProblemData.ProblemData.{decide, stabiliser}
+use Rattle.wh_data.specs.AnswerData.{SideData, PartsData, CertificateData}
+use Rattle.wh_data.specs.AnswerData.StabVerdictData.{done}
+use Rattle.wh_data.specs.AnswerData.AnswerData.{stabiliser as stabiliser_answer}
+use Rattle.wh_data.specs.AnswerTexts.{answer_text}
 use Rattle.wh_text.specs.Certificates.{certificate as certificate_in}
 use Rattle.wh_nielsen.specs.Automorphisms.{IsCarried}
 use Rattle.wh_answer.specs.Certified.{Shows}
+use Rattle.wh_answer.specs.StabiliserMeanings.{PresentsStabiliser}
 use Rattle.whitehead.specs.declared.arguments.Arguments.{Arguments}
 use Rattle.whitehead.specs.declared.arguments.Task.TheVariants.{Answer, Check}
 use Rattle.whitehead.specs.Asked.{asked}
@@ -31,7 +35,15 @@ pub record IsShown (bytes : List ℕ) : Type 0 where
   pub read : certificate_in bytes ≡ Ok certificate
   pub shown : Shows certificate.answer
 
--- What is told of words and bytes is so: where they ask to decide two tuples, what the status says of these; and where they ask to check a text and it is told valid, what the text says.
-pub record IsTrue (words : List Text) (bytes : List ℕ) (status : Status) : Type 0 where
+-- The text tells a side and parts that present the stabiliser of the tuple.
+pub record TellsStabiliser (t : TupleData) (text : List ℕ) : Type 0 where
+  pub side : SideData
+  pub parts : PartsData
+  pub told : text ≡ answer_text (stabiliser_answer t (done side parts))
+  pub presents : PresentsStabiliser t side parts
+
+-- What is told of words and bytes is so: where they ask to decide two tuples, what the status says of these; where they ask for the stabiliser of a tuple and it is made, that the text presents it; and where they ask to check a text and it is told valid, what the text says.
+pub record IsTrue (words : List Text) (bytes : List ℕ) (status : Status) (text : List ℕ) : Type 0 where
   pub decided : (a : Arguments) (s t : TupleData) → asked words ≡ Some a → a.task ≡ Answer commands.Decide → problem commands.Decide bytes ≡ Ok (decide s t) → SaysOf status s t
+  pub presented : (a : Arguments) (t : TupleData) → asked words ≡ Some a → a.task ≡ Answer commands.Stabiliser → problem commands.Stabiliser bytes ≡ Ok (stabiliser t) → status ≡ Done → TellsStabiliser t text
   pub checked : (a : Arguments) → asked words ≡ Some a → a.task ≡ Check → status ≡ Done → IsShown bytes

@@ -38,7 +38,7 @@ module _ (words : List Text) (left left' held held' sent' : Option (List ℕ)) w
     pub whole : IsInput words bytes left'
     pub written : IsWritten held held' sent' text
     pub told : Told words bytes status text
-    pub so : IsTrue words bytes status
+    pub so : IsTrue words bytes status text
 
   -- The sink failed after a prefix of a text that would have been told.
   pub record HasToldPart : Type 0 where

@@ -112,7 +112,9 @@ fn problem_reply(alloc: Global, problem: &Problem, limit: u32) -> Result<Reply, 
 {
     match problem {
         Problem::Straighten { tuple, moves } => straighten_reply(alloc, tuple, moves.items()),
-        Problem::Reduce { .. } | Problem::Decide { .. } => answered_reply(alloc, problem, limit),
+        Problem::Reduce { .. } | Problem::Decide { .. } | Problem::Stabiliser { .. } => {
+            answered_reply(alloc, problem, limit)
+        }
     }
 }
 
