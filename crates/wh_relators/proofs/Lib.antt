@@ -14,3 +14,4 @@ pub mod ItemLists
 pub mod WordLists
 pub mod PairCuts
 pub mod ListedMore
+pub mod Retained

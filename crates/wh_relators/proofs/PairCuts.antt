@@ -176,10 +176,6 @@ pub listed_is : (t : TupleData) (c : Capacities) → AreCapacities t c → (f : 
 unfolding chosen_lists listed
 listed_is t c m f = ap (λ n. chosen_lists n (told c) f) m.rank ∙ lists_same t.rank (omega (arith, m.few)) (told c) (kept t) (told_is t c m) f
 
-pub family_chosen : (n : ℕ) (k : Cut → Bool) (f : Family) (xs ys : List Cut) → xs ≡ firsts n f → ys ≡ seconds n f → for_each xs ys (chosen n k f) (word_of n f) ≡ chosen_lists n k f
-unfolding chosen_lists
-family_chosen n k f xs ys e g = ap₂ (λ us vs. for_each us vs (chosen n k f) (word_of n f)) e g
-
 -- ---- all families
 abbrev pub all_families : List Family
 all_families =

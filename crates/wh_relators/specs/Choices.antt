@@ -1,5 +1,5 @@
 -- The lists of the families by pairs of items, and which of them keep the length of a tuple, told by single cuts.
-use Rattle.std.specs.Prelude.{ℕ, ◌+◌, ◌-◌, ◌*◌, ◌/◌, ◌==◌, ◌&&◌, Bool, true, not, ltb, List, [], ◌∷◌, ◌++◌, map}
+use Rattle.std.specs.Prelude.{ℕ, ◌+◌, ◌-◌, ◌*◌, ◌/◌, ◌==◌, ◌&&◌, Bool, true, not, ltb, cond, List, [], ◌∷◌, ◌++◌, map}
 use Rattle.std.specs.List.{range_with_len}
 use Rattle.wh_words.specs.Tuples.{TupleData}
 use Rattle.wh_words.specs.Moves.{Move}
@@ -126,6 +126,48 @@ word_of n Inner x y = conjugate_inner n x y.mult
 -- Whether the list of a pair is chosen: the pair passes the test of its family, its cuts keep the length, and no identity cut stands in its list.
 abbrev pub chosen : ℕ → (Cut → Bool) → Family → Cut → Cut → Bool
 chosen n keeps f x y = fits n f x y && (ends_kept n keeps f x y && is_proper (word_of n f x y))
+
+-- Whether a cut, or its inverse where it is to go back, passes a test.
+abbrev pub stays : (Cut → Bool) → Bool → Cut → Bool
+stays keeps back_too x = cond back_too (keeps (back x)) (keeps x)
+
+-- Whether a chosen pair of two cuts can have this first cut: where its list begins with it, the cut keeps the length.
+abbrev pub begins : (Cut → Bool) → Family → Cut → Bool
+begins keeps Cancel x = true
+begins keeps Unite x = keeps x
+begins keeps Commute x = keeps x
+begins keeps Conjugate x = true
+begins keeps Exchange x = true
+begins keeps SwapCut x = true
+begins keeps InvertCut x = true
+begins keeps SwapTwice x = true
+begins keeps InvertTwice x = true
+begins keeps Braid x = true
+begins keeps SwapBoth x = true
+begins keeps InvertBoth x = true
+begins keeps SwapInversion x = true
+begins keeps PassInversion x = true
+begins keeps Complement x = true
+begins keeps Inner x = true
+
+-- Whether it can have this second cut.
+abbrev pub follows : (Cut → Bool) → Family → Cut → Bool
+follows keeps Cancel y = true
+follows keeps Unite y = true
+follows keeps Commute y = keeps y
+follows keeps Conjugate y = keeps (back y)
+follows keeps Exchange y = true
+follows keeps SwapCut y = true
+follows keeps InvertCut y = true
+follows keeps SwapTwice y = true
+follows keeps InvertTwice y = true
+follows keeps Braid y = true
+follows keeps SwapBoth y = true
+follows keeps InvertBoth y = true
+follows keeps SwapInversion y = true
+follows keeps PassInversion y = true
+follows keeps Complement y = true
+follows keeps Inner y = true
 
 -- The lists of a family that are chosen.
 unfoldable pub chosen_lists : ℕ → (Cut → Bool) → Family → List (List Move)

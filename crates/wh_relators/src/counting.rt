@@ -12,9 +12,10 @@ ghost use Rattle.wh_relators.specs.Pairs.{AreRoomy, IsPair};
 use crate::capacities::Capacities;
 use crate::cut::Cut;
 use crate::family::Family;
-use crate::items::{MOST_ITEMS, letter_item, write_firsts, write_seconds};
+use crate::items::{MOST_ITEMS, letter_item};
 use crate::listing::FAMILIES;
 use crate::pair_tests::fits;
+use crate::retaining::{first_items, second_items};
 use crate::words::is_proper_word;
 use wh_words::{Letter, Tuple};
 
@@ -69,9 +70,9 @@ fn count_family(capacities: &Capacities, family: Family) -> u32
 {
     let blank = letter_item(Letter::of_index(0));
     let mut xs = [blank; MOST_ITEMS];
-    let first = write_firsts(&mut xs, capacities.rank, family);
+    let first = first_items(&mut xs, capacities, family);
     let mut ys = [blank; MOST_ITEMS];
-    let second = write_seconds(&mut ys, capacities.rank, family);
+    let second = second_items(&mut ys, capacities, family);
     count_pairs(capacities, family, &xs[..first], &ys[..second])
 }
 

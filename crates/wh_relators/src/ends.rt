@@ -28,7 +28,7 @@ fn back(x: Cut) -> Cut
 
 impl Capacities {
     /// Whether the inverse of a cut keeps the length.
-    fn keeps_back(&self, x: Cut) -> bool
+    pub(crate) fn keeps_back(&self, x: Cut) -> bool
         requires roomy { AreRoomy self.now }
         requires cut { IsCut self.now.rank x.mult x.set }
         ensures { result ≡ told self.now (kept.back x) }

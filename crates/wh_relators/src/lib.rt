@@ -11,6 +11,7 @@ pub mod laws;
 mod listing;
 mod mask_tests;
 mod pair_tests;
+mod retaining;
 mod words;
 
 pub use counting::count;

@@ -13,8 +13,9 @@ ghost use Rattle.wh_relators.specs.Pairs.{AreRoomy, IsPair};
 use crate::capacities::Capacities;
 use crate::cut::Cut;
 use crate::family::Family;
-use crate::items::{MOST_ITEMS, letter_item, write_firsts, write_seconds};
+use crate::items::{MOST_ITEMS, letter_item};
 use crate::pair_tests::fits;
+use crate::retaining::{first_items, second_items};
 use crate::words::{is_proper, word_of};
 use std::alloc::Global;
 use wh_moves::Move;
@@ -108,9 +109,9 @@ fn push_family(
 {
     let blank = letter_item(Letter::of_index(0));
     let mut xs = [blank; MOST_ITEMS];
-    let first = write_firsts(&mut xs, capacities.rank, family);
+    let first = first_items(&mut xs, capacities, family);
     let mut ys = [blank; MOST_ITEMS];
-    let second = write_seconds(&mut ys, capacities.rank, family);
+    let second = second_items(&mut ys, capacities, family);
     push_pairs(
         alloc,
         words,

@@ -1,21 +1,16 @@
-use Rattle.std.proofs.Common.{List, length, take, ap, ◌∙◌, sym, subst, arith}
-use Rattle.std.specs.List.{All}
-use Rattle.wh_relators.specs.Cuts.{Cut}
-use Rattle.wh_relators.specs.Choices.{firsts}
+use Rattle.std.proofs.Common.{length, take, ap, ◌∙◌, arith}
 use Rattle.wh_relators.specs.Measures.{told}
-use Rattle.wh_relators.specs.Pairs.{IsPair}
-use Rattle.wh_relators.proofs.PairCuts.{pairs_are, family_chosen}
+use Rattle.wh_relators.proofs.Retained.{pairs_retained, family_chosen}
 use Rattle.wh_relators.proofs.counting.count_family.Goals as goal
 
 pub count_pairs-requires-clause-pairs : goal.count_pairs-requires-clause-pairs
 count_pairs-requires-clause-pairs c =
-    subst (λ (us : List Cut). All (λ x. All (IsPair c.args.capacities.now.rank c.args.family x) (take c.write_seconds-second.result c.write_seconds-second.new.items)) us) (sym c.write_firsts-first.ensures.written)
-    (subst (λ (vs : List Cut). All (λ x. All (IsPair c.args.capacities.now.rank c.args.family x) vs) (firsts c.args.capacities.now.rank c.args.family)) (sym c.write_seconds-second.ensures.written)
-    (pairs_are c.args.capacities.now.rank (omega (arith, c.requires.few)) c.args.family))
+    pairs_retained c.args.capacities.now.rank (told c.args.capacities.now) (omega (arith, c.requires.few)) c.args.family (take c.first_items-first.result c.first_items-first.new.items) (take c.second_items-second.result c.second_items-second.new.items)
+    c.first_items-first.ensures.written c.second_items-second.ensures.written
 
 pub returns : goal.returns
 returns c = record {
   count = c.count_pairs.ensures.count
-      ∙ ap length (family_chosen c.args.capacities.now.rank (told c.args.capacities.now) c.args.family (take c.write_firsts-first.result c.write_firsts-first.new.items) (take c.write_seconds-second.result c.write_seconds-second.new.items) c.write_firsts-first.ensures.written c.write_seconds-second.ensures.written);
+      ∙ ap length (family_chosen c.args.capacities.now.rank (told c.args.capacities.now) c.args.family (take c.first_items-first.result c.first_items-first.new.items) (take c.second_items-second.result c.second_items-second.new.items) c.first_items-first.ensures.written c.second_items-second.ensures.written);
   most = c.count_pairs.ensures.most;
 }
