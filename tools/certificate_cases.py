@@ -47,13 +47,13 @@ def altered(answer, old, new):
     return answer.replace(old, new, 1)
 
 
-def is_straightened(text):
-    return text.startswith("whitehead 1 straighten\n")
+def is_unchecked(text):
+    return text.startswith(("whitehead 1 straighten\n", "whitehead 1 stabiliser\n"))
 
 
 def stored_verdict(text):
     """What an answer of the program gets. The fifth line of an answer of `decide` has the verdict."""
-    if is_straightened(text):
+    if is_unchecked(text):
         return "refused no-certificate line 1"
     return "refused no-certificate line 5" if "\nverdict undecided " in text else "valid"
 

@@ -15,12 +15,15 @@ from reference import status_of
 
 EXAMPLES = table.ROOT / "examples"
 LIMITS = {"planes": 1000}
+STABILISERS = ("klein", "letter", "mapping_classes", "pair")
 
 
 def words(name, problem):
-    """The words of the command line that an example is for: moves are to be straightened, and two tuples to be decided."""
+    """The words of the command line that an example is for: moves are to be straightened, two tuples to be decided, and one
+    tuple to be reduced, but for the examples of stabilisers."""
     keywords = [line.split(" ")[0] for line in problem.splitlines()]
-    command = "straighten" if "moves" in keywords else "decide" if keywords.count("tuple") == 2 else "reduce"
+    for_one = "stabiliser" if name in STABILISERS else "reduce"
+    command = "straighten" if "moves" in keywords else "decide" if keywords.count("tuple") == 2 else for_one
     return f"{command} --limit {LIMITS[name]}" if name in LIMITS else command
 
 
@@ -28,7 +31,7 @@ def cases():
     for path in sorted(EXAMPLES.glob("*.txt")):
         problem = path.read_text()
         answer = (EXAMPLES / "answers" / path.name).read_text()
-        yield table.Case(words(path.stem, problem), problem.encode(), f"status {status_of(answer)}\n{answer}")
+        yield table.Case(words(path.stem, problem), problem.encode(), table.told_of(answer, status_of(answer)))
 
 
 def write():

@@ -2,7 +2,7 @@
 
 A case of `stdin` is a head, which has the words of the command line, and an input; `stdout` has the same heads, each with
 the status and the text that are told. A head begins with `==`, or with `=|` where the last byte of the input, which ends
-its last line, is left out.
+its last line, is left out. A text of more than 16,384 bytes is told by their number and their hash (FNV-1a of 64 bits).
 
 The table has three parts: first the problems, then the certificates, which begin with the first case of `check` and end
 with the last one, and then the examples.
@@ -16,6 +16,8 @@ import typing
 ROOT = pathlib.Path(__file__).parent.parent
 ROWS = ROOT / "crates" / "wh_tests_rows"
 HEAD = re.compile(rb"^(=[=|].*\n)", re.MULTILINE)
+
+MOST_TOLD = 16384
 
 # Command lines that ask for `check`.
 OPTION = r"--(limit|workers)[ =][1-9][0-9]*"
@@ -50,9 +52,24 @@ def asks_check(words):
     return ASKS_CHECK.fullmatch(words) is not None
 
 
+def hash_of(data):
+    """The hash of bytes, as Fowler, Noll and Vo define it."""
+    made = 0xCBF29CE484222325
+    for byte in data:
+        made = (made ^ byte) * 0x100000001B3 % 2**64
+    return made
+
+
+def told_of(text, status):
+    """What the table tells of a status and a text, whose lines are ended."""
+    if len(text) > MOST_TOLD:
+        text = f"bytes {len(text):016x} hash {hash_of(text.encode()):016x}\n"
+    return f"status {status}\n{text}"
+
+
 def told_by(text, status):
-    """What the table tells of a text and a status."""
-    return f"status {status}\n{text}\n"
+    """What the table tells of a status and a text of one line."""
+    return told_of(f"{text}\n", status)
 
 
 def blocks(name):

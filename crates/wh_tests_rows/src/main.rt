@@ -1,7 +1,8 @@
 //! Runs the program on each case of its standard input, over memory, and writes what each is told.
 //!
 //! A case begins with a line `== WORDS`, which has the words of the command line, or `=| WORDS`; the input follows, up to
-//! the next such line. After `=|` the last byte of the input, which ends its last line, is left out.
+//! the next such line. After `=|` the last byte of the input, which ends its last line, is left out. A long text is told by
+//! how many bytes it has and by their hash, both to base 16.
 #![tactic(auto)]
 
 ghost use Rattle.std.specs.Prelude.{◌<◌, ◌≤◌, length};
@@ -11,6 +12,9 @@ use std::io::{self, Read, Write};
 use std::str;
 use wh_io::{MemSink, MemSource};
 use whitehead::run;
+
+/// A text that has more bytes than this isn't told whole.
+const MOST_TOLD: usize = 16384;
 
 /// Where the case after the one at `start` begins, or the end.
 fn next_start(bytes: &[u8], start: usize) -> usize
@@ -52,6 +56,40 @@ fn without_last(input: &[u8]) -> &[u8] {
     }
 }
 
+/// The hash of bytes, as Fowler, Noll and Vo define it (FNV-1a of 64 bits).
+fn hash_of(bytes: &[u8]) -> u64 {
+    let mut made: u64 = 0xcbf2_9ce4_8422_2325;
+    for byte in bytes {
+        made = (made ^ u64::from(*byte)).wrapping_mul(0x0000_0100_0000_01b3);
+    }
+    made
+}
+
+/// A number to base 16, with all of its digits.
+fn digits_of(number: u64) -> [u8; 16] {
+    let mut digits = [b'0'; 16];
+    let mut left = number;
+    for k in 0..16 {
+        let digit = (left % 16) as usize;
+        digits[15 - k] = b"0123456789abcdef"[digit];
+        left /= 16;
+    }
+    digits
+}
+
+/// Writes a text, or what is told of a long one.
+fn write_text(rt: &HostRuntime, text: &[u8]) -> io::Result<()> {
+    let mut out = rt.stdout();
+    if text.len() <= MOST_TOLD {
+        return out.write_all(text);
+    }
+    out.write_all(b"bytes ")?;
+    out.write_all(&digits_of(text.len() as u64))?;
+    out.write_all(b" hash ")?;
+    out.write_all(&digits_of(hash_of(text)))?;
+    out.write_all(b"\n")
+}
+
 /// Runs one case, and writes its words, its status and its text.
 fn run_case(rt: &HostRuntime, case: &[u8]) -> io::Result<()> {
     let alloc = rt.alloc();
@@ -72,7 +110,7 @@ fn run_case(rt: &HostRuntime, case: &[u8]) -> io::Result<()> {
     out.write_all(head)?;
     out.write_all(b"\nstatus ")?;
     out.write_all(&[b'0' + status.number(), b'\n'])?;
-    out.write_all(sink.held())
+    write_text(rt, sink.held())
 }
 
 fn main(rt: HostRuntime) -> io::Result<()> {
