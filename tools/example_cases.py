@@ -15,7 +15,7 @@ from reference import status_of
 
 EXAMPLES = table.ROOT / "examples"
 LIMITS = {"planes": 1000}
-STABILISERS = ("klein", "letter", "mapping_classes", "pair")
+STABILISERS = ("conjugations", "klein", "letter", "mapping_classes")
 
 
 def words(name, problem):
