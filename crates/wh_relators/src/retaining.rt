@@ -17,7 +17,11 @@ impl Capacities {
         requires cut { Is self.now.rank x }
         ensures { result ≡ stays (told self.now) back x }
     {
-        if back { self.keeps_back(x) } else { self.keeps(x) }
+        if back {
+            self.keeps_back(x)
+        } else {
+            self.keeps(x)
+        }
     }
 }
 
