@@ -11,3 +11,5 @@ pub mod ReadMoves
 pub mod ReadFlows
 pub mod MoveLaws
 pub mod FlowLaws
+pub mod StabiliserLaws
+pub mod StabiliserReadings

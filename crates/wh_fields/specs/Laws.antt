@@ -13,6 +13,7 @@ use Rattle.wh_lines.specs.Lines.{Field}
 use Rattle.wh_fields.specs.Words.{letter_of, letter_text, letters_at, word_at, word_text}
 use Rattle.wh_fields.specs.MoveFields.{kind_in, moves_at}
 use Rattle.wh_fields.specs.FlowFields.{Pair, FlowData, flow_in}
+use Rattle.wh_fields.specs.StabiliserFields.{vertex_text, TreeEdgeData, tree_edge_in, generator_in, RelatorLineData, relator_in}
 use Rattle.wh_flow.specs.Tables.{zero_table, with_cell}
 
 -- Letters of a rank are read exactly from their bytes.
@@ -55,6 +56,13 @@ pub data IsMoveField (n : ℕ) (f : List ℕ) (kind : Kind) : Type 0 where
   an_inversion : (k : ℕ) → 0 < k → k ≤ n → f ≡ codes "i" ++ decimal k → kind ≡ invert k → IsMoveField n f kind
   a_cut : (a : ℕ) (xs : List ℕ) → a < 2 * n → IsOfRank n xs → RisesFrom 0 xs → in_set (set_of xs) a ≡ true → in_set (set_of xs) (inverse_letter a) ≡ false →
       f ≡ letter_text a ∷ codes ":" ++ map letter_text xs → kind ≡ cut a (set_of xs) → IsMoveField n f kind
+
+-- The fields spell these moves, which are of rank n.
+abbrev pub AreMoveFields : ℕ → List (List ℕ) → List Move → Type 0
+AreMoveFields n [] [] = Unit {0}
+AreMoveFields n [] (m ∷ ms) = ⊥
+AreMoveFields n (f ∷ fs) [] = ⊥
+AreMoveFields n (f ∷ fs) (m ∷ ms) = (m.rank ≡ n) × IsMoveField n f m.kind × AreMoveFields n fs ms
 
 -- A move of a rank is read exactly from the fields that spell it.
 abbrev pub ReadsMoves : Type 0
@@ -111,3 +119,46 @@ pub record IsFlowLine (n : ℕ) (fs : List (List ℕ)) (told : FlowData) : Type 
 -- A flow is read exactly from the fields that tell it.
 abbrev pub ReadsFlows : Type 0
 ReadsFlows = (n : ℕ) (fs : List Field) (told : FlowData) → n ≤ most_rank → (flow_in n fs ≡ Some told) ↔ IsFlowLine n (map (λ f. f.bytes) fs) told
+
+-- ---- stabilisers
+-- A number of a vertex or of a generator: from 1, and below 2 ^ 32.
+abbrev pub IsCounting : ℕ → Type 0
+IsCounting k = (0 < k) × (k < 2 ^ 32)
+
+-- The fields tell an edge of a tree in rank n: the number of a vertex, that of its parent, and a move.
+pub record IsTreeEdgeLine (n : ℕ) (fs : List (List ℕ)) (told : TreeEdgeData) : Type 0 where
+  pub number : IsCounting told.head
+  pub parent : IsCounting (told.parent + 1)
+  pub rank : told.move.rank ≡ n
+  pub field : List ℕ
+  pub move : IsMoveField n field told.move.kind
+  pub spelled : fs ≡ decimal told.head ∷ vertex_text told.parent ∷ field ∷ []
+
+-- The fields tell a generator in rank n: the number of a vertex, and a move.
+pub record IsGeneratorLine (n : ℕ) (fs : List (List ℕ)) (told : ℕ × Move) : Type 0 where
+  pub vertex : IsCounting (told.0 + 1)
+  pub rank : told.1.rank ≡ n
+  pub field : List ℕ
+  pub move : IsMoveField n field told.1.kind
+  pub spelled : fs ≡ vertex_text told.0 ∷ field ∷ []
+
+-- The fields tell a relator in rank n: the number of a vertex, one move or more, and behind `=` numbers of generators.
+pub record IsRelatorLine (n : ℕ) (fs : List (List ℕ)) (told : RelatorLineData) : Type 0 where
+  pub vertex : IsCounting (told.at + 1)
+  pub fields : List (List ℕ)
+  pub moves : AreMoveFields n fields told.moves
+  pub some : told.moves ≢ []
+  pub numbers : All IsCounting told.word
+  pub spelled : fs ≡ vertex_text told.at ∷ fields ++ codes "=" ∷ map decimal told.word
+
+-- An edge of a tree is read exactly from the fields that tell it.
+abbrev pub ReadsTreeEdges : Type 0
+ReadsTreeEdges = (n : ℕ) (fs : List Field) (told : TreeEdgeData) → n ≤ most_rank → (tree_edge_in n fs ≡ Some told) ↔ IsTreeEdgeLine n (map (λ f. f.bytes) fs) told
+
+-- A generator is read exactly from the fields that tell it.
+abbrev pub ReadsGenerators : Type 0
+ReadsGenerators = (n : ℕ) (fs : List Field) (told : ℕ × Move) → n ≤ most_rank → (generator_in n fs ≡ Some told) ↔ IsGeneratorLine n (map (λ f. f.bytes) fs) told
+
+-- A relator is read exactly from the fields that tell it.
+abbrev pub ReadsRelators : Type 0
+ReadsRelators = (n : ℕ) (fs : List Field) (told : RelatorLineData) → n ≤ most_rank → (relator_in n fs ≡ Some told) ↔ IsRelatorLine n (map (λ f. f.bytes) fs) told

@@ -1,5 +1,5 @@
 //! Laws of fields, each the contract of an empty function.
-ghost use Rattle.wh_fields.specs.Laws.{ReadsLetters, ReadsWords, NamesTheFirstBadLetter, ReadsMoves, NamesTheFirstBadMove, ReadsFlows};
+ghost use Rattle.wh_fields.specs.Laws.{ReadsLetters, ReadsWords, NamesTheFirstBadLetter, ReadsMoves, NamesTheFirstBadMove, ReadsFlows, ReadsTreeEdges, ReadsGenerators, ReadsRelators};
 
 /// Letters are read exactly from their bytes.
 pub fn letters()
@@ -29,4 +29,19 @@ pub fn first_bad_move()
 /// A flow is read exactly from the fields that tell it.
 pub fn flows()
     ensures { ReadsFlows }
+{}
+
+/// An edge of a tree is read exactly from the fields that tell it.
+pub fn tree_edges()
+    ensures { ReadsTreeEdges }
+{}
+
+/// A generator is read exactly from the fields that tell it.
+pub fn generators()
+    ensures { ReadsGenerators }
+{}
+
+/// A relator is read exactly from the fields that tell it.
+pub fn relators()
+    ensures { ReadsRelators }
 {}

@@ -73,7 +73,7 @@ fn cut_of(rank: Rank, bytes: &[u8], mult: Option<Letter>) -> Option<Move>
 /// The move of a rank that the bytes of a field tell: a letter, `:` and a set of letters that rise, with the letter and
 /// without its inverse; or `s` or `i` and a number.
 #[tactic(auto, unfolding(crate::specs::MoveFields::kind_in))]
-fn move_of(rank: Rank, bytes: &[u8]) -> Option<Move>
+pub(crate) fn move_of(rank: Rank, bytes: &[u8]) -> Option<Move>
     ensures { result ≡ move_with rank (kind_in rank bytes.now) }
 {
     let [first, rest @ ..] = bytes else {

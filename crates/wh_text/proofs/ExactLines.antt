@@ -22,12 +22,12 @@ use Rattle.wh_lines.proofs.ExactReadings.{row_of, Exact, Then, Headed, Nothing, 
 use Rattle.wh_fields.specs.MoveFields.{kind_in, move_with, or_bad_move, move_at, moves_at}
 use Rattle.wh_fields.specs.TupleFields.{tuple_at, words_row}
 use Rattle.wh_fields.specs.FlowFields.{FlowData, flow_in}
-use Rattle.wh_fields.specs.Laws.{IsMoveField, IsFlowLine}
+use Rattle.wh_fields.specs.Laws.{AreMoveFields, IsMoveField, IsFlowLine}
 use Rattle.wh_fields.proofs.TupleLaws.{tuple_is, tuple_back}
 use Rattle.wh_fields.proofs.MoveLaws.{reads_moves}
 use Rattle.wh_fields.proofs.FlowLaws.{reads_flows}
 use Rattle.wh_text.specs.Certificates.{in_answer, tuple_after, like_of, like_after, moves_after, flow_after, SideRead, side_with, side_after, within, number_in, level_after}
-use Rattle.wh_text.specs.CertificateTexts.{IsTupleRow, IsLikeRow, AreMoveFields, IsMovesRow, IsFlowRow, IsSideText, IsLevelText}
+use Rattle.wh_text.specs.CertificateTexts.{IsTupleRow, IsLikeRow, IsMovesRow, IsFlowRow, IsSideText, IsLevelText}
 use Rattle.wh_words.specs.Limits.{most_level_tuples}
 
 pub same_row : (k : Kept) (keyword : List ℕ) (fs : List (List ℕ)) → k.keyword ≡ keyword → map (λ f. f.bytes) k.fields ≡ fs → row_of k ≡ record { keyword = keyword; fields = fs }

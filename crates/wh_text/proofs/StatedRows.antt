@@ -21,7 +21,7 @@ use Rattle.wh_fields.specs.TupleFields.{tuple_at}
 use Rattle.wh_fields.specs.MoveFields.{moves_at}
 use Rattle.wh_fields.proofs.TupleLaws.{Spell, tuple_is, tuple_back}
 use Rattle.wh_data.specs.Limits.{most_given_moves}
-use Rattle.wh_text.specs.CertificateTexts.{AreMoveFields}
+use Rattle.wh_fields.specs.Laws.{AreMoveFields}
 use Rattle.wh_text.specs.Problems.{tuple_line, given_moves, nothing_left, last_moves, has_moves, Stated, with_tuple, stated}
 use Rattle.wh_text.proofs.ExactLines.{moves_are, moves_back}
 

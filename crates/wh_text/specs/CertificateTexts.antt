@@ -12,7 +12,7 @@ use Rattle.wh_lines.specs.Rows.{Row, number_row}
 use Rattle.wh_lines.specs.Laws.{IsClean, field_texts, kept_lines, kept_numbers, texts_of, EachRow}
 use Rattle.wh_fields.specs.TupleFields.{words_row}
 use Rattle.wh_fields.specs.FlowFields.{FlowData}
-use Rattle.wh_fields.specs.Laws.{IsMoveField, IsFlowLine}
+use Rattle.wh_fields.specs.Laws.{AreMoveFields, IsFlowLine}
 use Rattle.wh_data.specs.Limits.{most_answer_bytes}
 use Rattle.wh_data.specs.AnswerData.{SideData, VerdictData, AnswerData, CertificateData}
 use Rattle.wh_data.specs.AnswerData.VerdictData.{yes, no_length, no_level, undecided}
@@ -35,13 +35,6 @@ pub record IsTupleRow (keyword : List ℕ) (n : ℕ) (row : Row) (t : TupleData)
 -- It has so many words.
 abbrev pub IsLikeRow : List ℕ → ℕ → ℕ → Row → TupleData → Type 0
 IsLikeRow keyword n count row t = IsTupleRow keyword n row t × (length t.words ≡ count)
-
--- The fields spell these moves, which are of rank n.
-abbrev pub AreMoveFields : ℕ → List (List ℕ) → List Move → Type 0
-AreMoveFields n [] [] = Unit {0}
-AreMoveFields n [] (m ∷ ms) = ⊥
-AreMoveFields n (f ∷ fs) [] = ⊥
-AreMoveFields n (f ∷ fs) (m ∷ ms) = (m.rank ≡ n) × IsMoveField n f m.kind × AreMoveFields n fs ms
 
 abbrev pub IsMovesRow : List ℕ → ℕ → Row → List Move → Type 0
 IsMovesRow keyword n row ms = (row.keyword ≡ keyword) × AreMoveFields n row.fields ms

@@ -12,8 +12,8 @@ use Rattle.wh_lines.specs.declared.read_error.ReadError.TheVariants as errors
 use Rattle.wh_lines.specs.Lines.{lines, is_allowed}
 use Rattle.wh_fields.specs.Words.{word_text}
 use Rattle.wh_data.specs.ProblemData.ProblemData.{reduce, decide, straighten, stabiliser}
+use Rattle.wh_fields.specs.Laws.{AreMoveFields}
 use Rattle.wh_text.specs.Problems.{problem}
-use Rattle.wh_text.specs.CertificateTexts.{AreMoveFields}
 use Rattle.wh_data.specs.Limits.{most_problem_bytes, most_given_moves}
 use Rattle.wh_lines.specs.Laws.{IsClean, field_texts, kept_lines}
 

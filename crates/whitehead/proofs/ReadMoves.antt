@@ -9,8 +9,9 @@ use Rattle.wh_fields.proofs.MoveLaws.{spelled_kind}
 use Rattle.wh_data.specs.AnswerData.{SideData, VerdictData, AnswerData, CertificateData}
 use Rattle.wh_data.specs.AnswerData.VerdictData.{yes, no_length, no_level, undecided}
 use Rattle.wh_data.specs.AnswerData.AnswerData.{reduce, decide, straighten, stabiliser}
+use Rattle.wh_fields.specs.Laws.{AreMoveFields}
 use Rattle.wh_text.specs.Certificates.{certificate}
-use Rattle.wh_text.specs.CertificateTexts.{AreMoveFields, IsMovesRow, IsSideText, IsVerdictText, IsAnswerText}
+use Rattle.wh_text.specs.CertificateTexts.{IsMovesRow, IsSideText, IsVerdictText, IsAnswerText}
 use Rattle.wh_text.proofs.ExactCertificates.{reads_certificates}
 use Rattle.wh_peak.specs.Equivalence.{IsMoveOfRank, AreMovesOfRank}
 use Rattle.wh_answer.specs.Certified.{HasMovesOfRank, HasMoves}
