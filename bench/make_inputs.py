@@ -125,6 +125,10 @@ def main():
         basis = [[2 * g] for g in range(rank)]
         moves = wandering(rng, rank, basis, 1024, 1000)
         write(f"straighten_rank{rank}", "1,024 random moves, on whose way a basis gets up to 1,000 letters.", rank, basis, moves=moves)
+    write("stabiliser_squares_rank3", "Surface words, whose level has 328 tuples and 14,408 edges.", 3, [squares(3)])
+    write("stabiliser_basis_rank4", "A basis.", 4, [[2 * g] for g in range(4)])
+    words = [spelled(word) for word in ("cc", "Bc", "adaD", "aCaCBB")]
+    write("stabiliser_full_rank4", "A level with nearly as many relators as there may be: 392,832.", 4, words)
 
 
 if __name__ == "__main__":

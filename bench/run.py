@@ -21,8 +21,10 @@ PROGRAM = ROOT.parent / "crates" / "wh_main" / "out" / "wh_main"
 
 
 def words_for(path):
-    """The words of the command line: moves are to be straightened, and two tuples to be decided, with the greatest limit
-    where the level is large."""
+    """The words of the command line: by the name of the file, stabilisers are asked for; moves are to be straightened, and
+    two tuples to be decided, with the greatest limit where the level is large."""
+    if path.stem.startswith("stabiliser"):
+        return ["stabiliser"]
     keywords = [line.split(" ")[0] for line in path.read_text().splitlines()]
     if "moves" in keywords:
         return ["straighten"]
@@ -32,14 +34,18 @@ def words_for(path):
 
 
 def told(answer):
-    """What the answer tells in short: the number of moves of its first line of moves, with that of the given ones where a
-    list was straightened, or its verdict."""
-    given = ""
+    """What the answer tells in short: the number of relators of a stabiliser, or the number of moves of its first line of
+    moves, with that of the given ones where a list was straightened, or its verdict."""
+    given, of_stabiliser = "", False
     answer.seek(0)
     for line in answer:
+        if line == "whitehead 1 stabiliser\n":
+            of_stabiliser = True
+        if line.startswith("relators "):
+            return f"{line.split()[1]} relators"
         if line.startswith("given"):
             given = f"{len(line.split()) - 1} -> "
-        if line.startswith(("trace", "moves")):
+        if line.startswith(("trace", "moves")) and not of_stabiliser:
             return f"{given}{len(line.split()) - 1} moves"
         if line.startswith(("verdict ", "refused ")) and line != "verdict yes\n":
             return line.removeprefix("verdict ").strip()

@@ -35,7 +35,7 @@ import altered_stabilisers
 import automorphism
 import reference
 import table
-from certificate_cases import altered, is_straightened, stored_verdict
+from certificate_cases import altered, stored_verdict
 from check_certificate import MOST_BYTES, act, check_stabiliser, check_straightened, composite, found, read_stabiliser
 
 # ---- tests, each with what is got and what is right
@@ -51,6 +51,10 @@ def found_straightened(text):
     return found(text.encode("latin1"), check_straightened)[0]
 
 
+def found_stabiliser(text):
+    return found(text.encode("latin1"), check_stabiliser)[0]
+
+
 def stored_answers():
     for path in sorted((table.ROOT / "examples" / "answers").glob("*.txt")):
         yield path.name, path.read_text()
@@ -63,8 +67,11 @@ def stored_answers():
 def stored_tests():
     for name, text in stored_answers():
         yield name, found_once(text.encode())[0], stored_verdict(text)
-        if is_straightened(text):
+        if text.startswith("whitehead 1 straighten\n"):
             yield f"{name}, as a straight list", found_straightened(text), "valid"
+        if text.startswith("whitehead 1 stabiliser\n"):
+            right = "refused no-certificate line 4" if "\nverdict undecided " in text else "valid"
+            yield f"{name}, as a stabiliser", found_stabiliser(text), right
 
 
 def table_tests():
@@ -88,10 +95,6 @@ def matrix_tests():
 
 
 # ---- stabilisers
-
-
-def found_stabiliser(text):
-    return found(text.encode("latin1"), check_stabiliser)[0]
 
 
 def stabiliser_tests():
