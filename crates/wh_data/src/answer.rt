@@ -71,14 +71,14 @@ pub struct Loop {
     pub word: List<u32>,
 }
 
-/// What presents the stabiliser of a tuple that no cut shortens (McCool 1975). Vertices are counted from 0.
+/// What presents the stabiliser of the end of a side (McCool 1975). Vertices are counted from 0.
 #[derive(Drop)]
 pub struct Parts {
-    /// The vertices: the tuples of the level. The first is the tuple itself.
+    /// The vertices: the tuples of the level of the end, in order.
     pub vertices: List<Tuple>,
-    /// For each vertex its parent in a tree, and the move that leads from there to it. The root has none.
+    /// For each vertex its parent in a tree, and the move that leads from there to it. The end, which is the root, has none.
     pub tree: List<Option<(usize, Move)>>,
-    /// For each generator a vertex, and a move that leads on from there.
+    /// For each generator the vertex where its edge starts, and the move of the edge.
     pub generators: List<(usize, Move)>,
     /// The relators.
     pub relators: List<Loop>,
@@ -87,7 +87,7 @@ pub struct Parts {
 /// What is found of the stabiliser of a tuple.
 #[derive(Drop)]
 pub enum StabVerdict {
-    /// The side of the tuple, and what presents the stabiliser of its end.
+    /// The side of the tuple, and what presents the stabiliser by its end.
     Done(Side, Parts),
     /// It isn't made, for this bound.
     Undecided(Bound),
