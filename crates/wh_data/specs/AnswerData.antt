@@ -50,11 +50,12 @@ pub data AnswerData : Type 0 where
   straighten : TupleData → List Move → List Move → TupleData → AnswerData
   stabiliser : TupleData → StabVerdictData → AnswerData
 
--- An answer, the numbers of the lines of its text that aren't skipped, and the letter and the value that each `flow` line names.
+-- An answer, the numbers of the lines of its text that aren't skipped, the letter and the value that each `flow` line names, and the number of the vertex that each `tree` line names.
 pub record CertificateData : Type 0 where
   pub answer : AnswerData
   pub lines : List ℕ
   pub flow_heads : List (ℕ × ℕ)
+  pub tree_heads : List ℕ
 
 -- ---- what values tell
 abbrev pub side_of : Side → SideData
@@ -80,4 +81,4 @@ answer_of (answers.Straighten t given ms end) = straighten t.plain given ms end.
 answer_of (answers.Stabiliser t v) = stabiliser t.plain (stab_verdict_of v)
 
 abbrev pub certificate_of : Numbered → CertificateData
-certificate_of n = record { answer = answer_of n.answer; lines = n.lines; flow_heads = n.flow_heads }
+certificate_of n = record { answer = answer_of n.answer; lines = n.lines; flow_heads = n.flow_heads; tree_heads = n.tree_heads }

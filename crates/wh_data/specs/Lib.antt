@@ -3,6 +3,7 @@ pub mod Limits
 pub mod Commands
 pub mod ProblemData
 pub mod AnswerData
+pub mod RootPlaces
 pub mod PresentationTexts
 pub mod AnswerTexts
 pub mod AnswerParts

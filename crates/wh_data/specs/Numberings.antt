@@ -1,12 +1,14 @@
 -- What is known of a certificate that was read: its parts fit together, and its lines are numbered.
-use Rattle.std.specs.Prelude.{◌≡◌, ℕ, ◌+◌, ◌*◌, ◌≤◌, length, is_some}
+use Rattle.std.specs.Prelude.{◌≡◌, ℕ, ◌+◌, ◌*◌, ◌<◌, ◌≤◌, ◌↔◌, length, is_some, IfSome, Some, None, slice_get}
 use Rattle.std.specs.List.{All, count_by}
+use Rattle.wh_data.specs.RootPlaces.{root_place}
 use Rattle.wh_data.specs.AnswerTexts.{head_rows}
 use Rattle.wh_data.specs.AnswerData.{SideData, VerdictData, PartsData, StabVerdictData, AnswerData, CertificateData}
 use Rattle.wh_data.specs.AnswerData.VerdictData.{yes, no_length, no_level, undecided}
 use Rattle.wh_data.specs.AnswerData.StabVerdictData.{done, stopped}
 use Rattle.wh_data.specs.AnswerData.AnswerData.{reduce, decide, straighten, stabiliser}
-use Rattle.wh_words.specs.Limits.{most_level_rank}
+use Rattle.wh_words.specs.Limits.{most_level_rank, most_level_tuples, most_level_edges, most_relators, most_stabiliser_rank}
+use Rattle.wh_words.specs.Tuples.{TupleData}
 
 -- ---- ranks
 -- The end, the moves and the flows of a side are of rank n.
@@ -21,6 +23,24 @@ IsVerdictOfRank n (yes ms) = All (λ m. m.rank ≡ n) ms
 IsVerdictOfRank n (no_length a b) = IsSideOfRank n a × IsSideOfRank n b
 IsVerdictOfRank n (no_level a b ts) = IsSideOfRank n a × IsSideOfRank n b × All (λ t. t.rank ≡ n) ts × (n ≤ most_level_rank)
 IsVerdictOfRank n (undecided bound) = ⊥
+
+-- The vertices and the moves of what presents a stabiliser are of rank n, which is low enough; there are neither no vertices nor too many, generators and relators; and each vertex has an entry in the tree, which is empty for the end alone.
+pub record ArePartsOfRank (n : ℕ) (end : TupleData) (p : PartsData) : Type 0 where
+  pub low : n ≤ most_stabiliser_rank
+  pub vertices : All (λ t. t.rank ≡ n) p.vertices
+  pub some : 1 ≤ length p.vertices
+  pub few : length p.vertices ≤ most_level_tuples
+  pub count : length p.tree ≡ length p.vertices
+  pub root : (v : ℕ) → (slice_get p.tree v ≡ Some None) ↔ (v ≡ root_place end p.vertices)
+  pub parents : All (λ e. IfSome e (λ s. s.1.rank ≡ n)) p.tree
+  pub generators : All (λ g. g.1.rank ≡ n) p.generators
+  pub few_generators : length p.generators ≤ most_level_edges
+  pub relators : All (λ r. All (λ m. m.rank ≡ n) r.moves) p.relators
+  pub few_relators : length p.relators ≤ most_relators
+
+abbrev pub IsStabOfRank : ℕ → StabVerdictData → Type 0
+IsStabOfRank n (done s p) = IsSideOfRank n s × ArePartsOfRank n s.end p
+IsStabOfRank n (stopped bound) = ⊥
 
 -- All parts of an answer are of one rank, it isn't undecided, and its command can be checked.
 abbrev pub IsAnswerOfOneRank : AnswerData → Type 0
@@ -41,9 +61,13 @@ verdict_lines n (no_length a b) = 2 * side_lines n
 verdict_lines n (no_level a b ts) = 2 * side_lines n + 1 + length ts
 verdict_lines n (undecided bound) = 0
 
+-- How many `tree` lines there are: one for each vertex with a parent.
+abbrev pub tree_lines : PartsData → ℕ
+tree_lines p = count_by is_some p.tree
+
 -- How many lines tell a level and what presents a stabiliser: those that count, and one for each tuple, each vertex with a parent, each generator and each relator.
 abbrev pub parts_lines : PartsData → ℕ
-parts_lines p = length p.vertices + count_by is_some p.tree + length p.generators + length p.relators + 3
+parts_lines p = length p.vertices + tree_lines p + length p.generators + length p.relators + 3
 
 abbrev pub stab_lines : ℕ → StabVerdictData → ℕ
 stab_lines n (done s p) = side_lines n + parts_lines p
@@ -78,8 +102,17 @@ flow_lines (decide s t v) = verdict_flows s.rank v
 flow_lines (straighten t given ms end) = 0
 flow_lines (stabiliser t v) = stab_flows t.rank v
 
--- The parts of a certificate are of one rank, and it has a number for each line, and a letter and a value for each `flow` line.
+-- How many `tree` lines the text of an answer has.
+abbrev pub answer_tree_lines : AnswerData → ℕ
+answer_tree_lines (reduce t s) = 0
+answer_tree_lines (decide s t v) = 0
+answer_tree_lines (straighten t given ms end) = 0
+answer_tree_lines (stabiliser t (done s p)) = tree_lines p
+answer_tree_lines (stabiliser t (stopped bound)) = 0
+
+-- The parts of a certificate are of one rank, and it has a number for each line, a letter and a value for each `flow` line, and the number of a vertex for each `tree` line.
 pub record IsNumbered (c : CertificateData) : Type 0 where
   pub answer : IsAnswerOfOneRank c.answer
   pub lines : length c.lines ≡ answer_lines c.answer
   pub heads : length c.flow_heads ≡ flow_lines c.answer
+  pub tree_heads : length c.tree_heads ≡ answer_tree_lines c.answer

@@ -10,4 +10,6 @@ pub struct Numbered {
     pub lines: List<u32>,
     /// The letter and the value that each `flow` line names, in the order of the text.
     pub flow_heads: List<(Letter, u32)>,
+    /// The number of the vertex that each `tree` line names, in the order of the text.
+    pub tree_heads: List<u32>,
 }

@@ -1,5 +1,5 @@
-//! Fields that tell words, tuples of words, moves and flows: each is read from fields, and printed as fields. What is told of
-//! a stabiliser is printed.
+//! Fields that tell words, tuples of words, moves, flows, and what presents a stabiliser: each is read from fields, and
+//! printed as fields.
 #![tactic(auto)]
 
 mod flow_printing;
@@ -19,6 +19,6 @@ pub use letter::{letter_byte, letter_of};
 pub use move_printing::print_moves;
 pub use move_reading::read_moves;
 pub use stabiliser_printing::{print_generator, print_relator, print_tree_edge};
-pub use stabiliser_reading::{TreeEdge, read_generator, read_tree_edge};
+pub use stabiliser_reading::{RelatorLine, TreeEdge, read_generator, read_relator, read_tree_edge};
 pub use tuple_printing::print_words;
 pub use tuple_reading::read_tuple;

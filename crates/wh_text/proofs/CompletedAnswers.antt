@@ -29,15 +29,17 @@ use Rattle.wh_data.specs.AnswerData.AnswerData.{reduce, decide}
 use Rattle.wh_data.specs.Commands.{is_checked, heading_row}
 use Rattle.wh_data.specs.AnswerTexts.{done_row}
 use Rattle.wh_text.proofs.CommandNames.{heading_shown}
-use Rattle.wh_text.specs.Certificates.{in_answer, tuple_after, like_after, moves_after, side_after, level_after, VerdictWord, verdict_in, sides_after, verdict_with, verdict_after, AnswerRead, reduced_after, decided_after, answer_with, heading_in, heading_after, done_after, with_end, answer_after}
+use Rattle.wh_text.specs.Certificates.{in_answer, tuple_after, like_after, moves_after, side_after, level_after, VerdictWord, verdict_in, sides_after, verdict_with, verdict_after, AnswerRead, reduced_after, decided_after, with_stab, stabilised_after, answer_with, heading_in, heading_after, done_after, with_end, answer_after}
 use Rattle.wh_text.specs.Certificates.VerdictWord.{a_yes, a_no_length, a_no_level}
 use Rattle.wh_text.specs.CertificateTexts.{IsTupleRow, IsLikeRow, IsMovesRow, IsLevelText, IsAnswerText}
 use Rattle.wh_text.proofs.RankLaws.{rank_within}
 use Rattle.wh_text.proofs.ExactLines.{same_row, IsSideRead, exact_tuple, exact_like, exact_moves, exact_side, exact_level}
-use Rattle.wh_text.proofs.ExactAnswers.{Sides, exact_sides, word_fields, word_row, word_told, Worded, WordIs, IsVerdictRead, verdict_is, exact_verdict, Reduced, Decided, Told}
+use Rattle.wh_text.proofs.ExactParts.{Stabilises}
+use Rattle.wh_text.proofs.ExactAnswers.{Sides, exact_sides, word_fields, word_row, word_told, Worded, WordIs, IsVerdictRead, verdict_is, exact_verdict, Reduced, Decided, Stabilised, Told}
 use Rattle.wh_text.proofs.ExactCertificates.{HeadingIs, exact_heading, RankIs, exact_rank, body, Body, exact_body, body_there, no_length_fields, finish, answer_split}
 use Rattle.wh_text.proofs.FirstLines.{verdict_in_line, heading_in_line, rank_in_line, rank_shape}
 use Rattle.wh_text.proofs.CompletedLines.{completes_tuple, completes_like, completes_moves, completes_side, completes_level}
+use Rattle.wh_text.proofs.CompletedParts.{completes_stab}
 
 -- ---- verdicts
 completes_sides : (n count : ℕ) → 1 ≤ n → n ≤ most_rank → count ≤ most_words → Completes (sides_after n count) (Sides n count)
@@ -84,26 +86,32 @@ few_words keyword n rows t told =
 completes_reduced : (n : ℕ) → 1 ≤ n → n ≤ most_rank → Completes (reduced_after n) (Reduced n)
 unfolding reduced_after
 completes_reduced n some h =
-    completes_then (tuple_after (codes "tuple") n) (λ t. side_after n (length t.0.words) t.1 >>= λ s. Ok (record { answer = reduce t.0 s.0.side; heads = s.0.heads }, s.1))
-    (OneRow (IsTupleRow (codes "tuple") n)) (λ t. Then (IsSideRead n (length t.words)) (λ s. Nothing (record { answer = reduce t s.side; heads = s.heads })))
+    completes_then (tuple_after (codes "tuple") n) (λ t. side_after n (length t.0.words) t.1 >>= λ s. Ok (record { answer = reduce t.0 s.0.side; heads = s.0.heads; tree_heads = [] }, s.1))
+    (OneRow (IsTupleRow (codes "tuple") n)) (λ t. Then (IsSideRead n (length t.words)) (λ s. Nothing (record { answer = reduce t s.side; heads = s.heads; tree_heads = [] })))
     (exact_tuple (codes "tuple") n h) (completes_tuple (codes "tuple") n (written_shown 116 (codes "uple") refl))
-    (λ t rows told. completes_then (side_after n (length t.words)) (λ s. Ok (record { answer = reduce t s.0.side; heads = s.0.heads }, s.1)) (IsSideRead n (length t.words)) (λ s. Nothing (record { answer = reduce t s.side; heads = s.heads }))
-    (exact_side n (length t.words) h) (completes_side n (length t.words) some h (few_words (codes "tuple") n rows t told)) (λ s _ _. completes_none (record { answer = reduce t s.side; heads = s.heads })))
+    (λ t rows told. completes_then (side_after n (length t.words)) (λ s. Ok (record { answer = reduce t s.0.side; heads = s.0.heads; tree_heads = [] }, s.1)) (IsSideRead n (length t.words)) (λ s. Nothing (record { answer = reduce t s.side; heads = s.heads; tree_heads = [] }))
+    (exact_side n (length t.words) h) (completes_side n (length t.words) some h (few_words (codes "tuple") n rows t told)) (λ s _ _. completes_none (record { answer = reduce t s.side; heads = s.heads; tree_heads = [] })))
 
 completes_decided : (n : ℕ) → 1 ≤ n → n ≤ most_rank → Completes (decided_after n) (Decided n)
 unfolding decided_after
 completes_decided n some h =
     completes_then (tuple_after (codes "first") n)
-    (λ s. like_after (codes "second") n (length s.0.words) s.1 >>= λ t. verdict_after n (length s.0.words) t.1 >>= λ v. Ok (record { answer = decide s.0 t.0 v.0.verdict; heads = v.0.heads }, v.1))
+    (λ s. like_after (codes "second") n (length s.0.words) s.1 >>= λ t. verdict_after n (length s.0.words) t.1 >>= λ v. Ok (record { answer = decide s.0 t.0 v.0.verdict; heads = v.0.heads; tree_heads = [] }, v.1))
     (OneRow (IsTupleRow (codes "first") n))
-    (λ s. Then (OneRow (IsLikeRow (codes "second") n (length s.words))) (λ t. Then (IsVerdictRead n (length s.words)) (λ v. Nothing (record { answer = decide s t v.verdict; heads = v.heads }))))
+    (λ s. Then (OneRow (IsLikeRow (codes "second") n (length s.words))) (λ t. Then (IsVerdictRead n (length s.words)) (λ v. Nothing (record { answer = decide s t v.verdict; heads = v.heads; tree_heads = [] }))))
     (exact_tuple (codes "first") n h) (completes_tuple (codes "first") n (written_shown 102 (codes "irst") refl))
     (λ s rows told. let few = few_words (codes "first") n rows s told in
-    completes_then (like_after (codes "second") n (length s.words)) (λ t. verdict_after n (length s.words) t.1 >>= λ v. Ok (record { answer = decide s t.0 v.0.verdict; heads = v.0.heads }, v.1))
-    (OneRow (IsLikeRow (codes "second") n (length s.words))) (λ t. Then (IsVerdictRead n (length s.words)) (λ v. Nothing (record { answer = decide s t v.verdict; heads = v.heads })))
+    completes_then (like_after (codes "second") n (length s.words)) (λ t. verdict_after n (length s.words) t.1 >>= λ v. Ok (record { answer = decide s t.0 v.0.verdict; heads = v.0.heads; tree_heads = [] }, v.1))
+    (OneRow (IsLikeRow (codes "second") n (length s.words))) (λ t. Then (IsVerdictRead n (length s.words)) (λ v. Nothing (record { answer = decide s t v.verdict; heads = v.heads; tree_heads = [] })))
     (exact_like (codes "second") n (length s.words) h) (completes_like (codes "second") n (length s.words) (written_shown 115 (codes "econd") refl) few)
-    (λ t _ _. completes_then (verdict_after n (length s.words)) (λ v. Ok (record { answer = decide s t v.0.verdict; heads = v.0.heads }, v.1)) (IsVerdictRead n (length s.words)) (λ v. Nothing (record { answer = decide s t v.verdict; heads = v.heads }))
-    (exact_verdict n (length s.words) h) (completes_verdict n (length s.words) some h few) (λ v _ _. completes_none (record { answer = decide s t v.verdict; heads = v.heads }))))
+    (λ t _ _. completes_then (verdict_after n (length s.words)) (λ v. Ok (record { answer = decide s t v.0.verdict; heads = v.0.heads; tree_heads = [] }, v.1)) (IsVerdictRead n (length s.words)) (λ v. Nothing (record { answer = decide s t v.verdict; heads = v.heads; tree_heads = [] }))
+    (exact_verdict n (length s.words) h) (completes_verdict n (length s.words) some h few) (λ v _ _. completes_none (record { answer = decide s t v.verdict; heads = v.heads; tree_heads = [] }))))
+
+pub completes_stabilised : (n : ℕ) → 1 ≤ n → n ≤ most_rank → Completes (stabilised_after n) (Stabilised n)
+unfolding stabilised_after
+completes_stabilised n some h =
+    completes_then (tuple_after (codes "tuple") n) (λ t. with_stab n t.0 t.1) (OneRow (IsTupleRow (codes "tuple") n)) (Stabilises n) (exact_tuple (codes "tuple") n h) (completes_tuple (codes "tuple") n (written_shown 116 (codes "uple") refl))
+    (λ t rows told. completes_stab n t some h (few_words (codes "tuple") n rows t told))
 
 completes_told : (c : Command) (n : ℕ) → is_checked c ≡ true → 1 ≤ n → n ≤ most_rank → Completes (answer_with c n) (Told c n)
 completes_told commands.Reduce n checked some h = completes_reduced n some h
@@ -184,7 +192,7 @@ completes_body =
 
 -- The rows of a whole certificate.
 abbrev pub IsAnswerRead : List Row → AnswerRead → Type 0
-IsAnswerRead rows x = IsAnswerText rows x.answer x.heads
+IsAnswerRead rows x = IsAnswerText rows x.answer x.heads x.tree_heads
 
 answer_there : (rows : List Row) (x : AnswerRead) → Then Body Finished rows x → IsAnswerRead rows x
 answer_there rows x s =

@@ -14,10 +14,11 @@ use Rattle.wh_data.specs.AnswerData.{SideData, VerdictData}
 use Rattle.wh_data.specs.AnswerData.VerdictData.{yes, no_length, no_level, undecided}
 use Rattle.wh_data.specs.AnswerData.AnswerData.{reduce, decide}
 use Rattle.wh_data.specs.AnswerTexts.{verdict_row}
-use Rattle.wh_text.specs.Certificates.{tuple_after, like_after, moves_after, SideRead, side_after, level_after, VerdictWord, verdict_in, VerdictRead, sides_after, verdict_with, verdict_after, AnswerRead, reduced_after, decided_after, answer_with}
+use Rattle.wh_text.specs.Certificates.{tuple_after, like_after, moves_after, SideRead, side_after, level_after, VerdictWord, verdict_in, VerdictRead, sides_after, verdict_with, verdict_after, AnswerRead, reduced_after, decided_after, with_stab, stabilised_after, answer_with}
 use Rattle.wh_text.specs.Certificates.VerdictWord.{a_yes, a_no_length, a_no_level}
 use Rattle.wh_text.specs.CertificateTexts.{IsTupleRow, IsLikeRow, IsMovesRow, IsLevelText, AreSideTexts, IsVerdictText}
-use Rattle.wh_text.proofs.ExactLines.{same_row, IsSideRead, exact_tuple, exact_like, exact_moves, exact_side, exact_level}
+use Rattle.wh_text.proofs.ExactLines.{same_row, alone, IsSideRead, exact_tuple, exact_like, exact_moves, exact_side, exact_level}
+use Rattle.wh_text.proofs.ExactParts.{Stabilises, exact_stab}
 
 -- ---- a row, and what is read after it
 pub one_then : {A B : Type 0} (T : Row → A → Type 0) (U : A → List Row → B → Type 0) (rows : List Row) (z : B) → Then (OneRow T) U rows z → Headed T U rows z
@@ -25,10 +26,6 @@ one_then T U rows z s = record { x = s.x; head = s.one.row; later = s.second; pa
 
 pub then_one : {A B : Type 0} (T : Row → A → Type 0) (U : A → List Row → B → Type 0) (rows : List Row) (z : B) → Headed T U rows z → Then (OneRow T) U rows z
 then_one T U rows z s = record { x = s.x; first = s.head ∷ []; second = s.later; parts = s.parts; one = record { row = s.head; parts = refl; one = s.one }; two = s.two }
-
--- nothing follows the first
-pub alone : {A : Type 0} (y z : A) (rows first second : List Row) → rows ≡ first ++ second → Nothing y second z → rows ≡ first
-alone y z rows first second e n = e ∙ ap (λ rs. first ++ rs) n.none ∙ append-nil first
 
 -- ---- two sides
 abbrev pub Sides : ℕ → ℕ → List Row → SideRead × SideRead → Type 0
@@ -247,13 +244,16 @@ exact_verdict n count h =
 
 -- ---- the lines of a command
 abbrev pub Reduced : ℕ → List Row → AnswerRead → Type 0
-Reduced n = Then (OneRow (IsTupleRow (codes "tuple") n)) (λ t. Then (IsSideRead n (length t.words)) (λ s. Nothing (record { answer = reduce t s.side; heads = s.heads })))
+Reduced n = Then (OneRow (IsTupleRow (codes "tuple") n)) (λ t. Then (IsSideRead n (length t.words)) (λ s. Nothing (record { answer = reduce t s.side; heads = s.heads; tree_heads = [] })))
 
 abbrev pub Decided : ℕ → List Row → AnswerRead → Type 0
 Decided n =
     Then (OneRow (IsTupleRow (codes "first") n)) (λ s.
     Then (OneRow (IsLikeRow (codes "second") n (length s.words))) (λ t.
-    Then (IsVerdictRead n (length s.words)) (λ v. Nothing (record { answer = decide s t v.verdict; heads = v.heads }))))
+    Then (IsVerdictRead n (length s.words)) (λ v. Nothing (record { answer = decide s t v.verdict; heads = v.heads; tree_heads = [] }))))
+
+abbrev pub Stabilised : ℕ → List Row → AnswerRead → Type 0
+Stabilised n = Then (OneRow (IsTupleRow (codes "tuple") n)) (Stabilises n)
 
 abbrev pub Untold : List Row → AnswerRead → Type 0
 Untold rows a = ⊥
@@ -267,25 +267,29 @@ Told commands.Stabiliser n = Untold
 exact_reduced : (n : ℕ) → n ≤ 26 → Exact (reduced_after n) (Reduced n)
 unfolding reduced_after
 exact_reduced n h =
-    exact_then (tuple_after (codes "tuple") n) (λ t. side_after n (length t.0.words) t.1 >>= λ s. Ok (record { answer = reduce t.0 s.0.side; heads = s.0.heads }, s.1))
-    (OneRow (IsTupleRow (codes "tuple") n)) (λ t. Then (IsSideRead n (length t.words)) (λ s. Nothing (record { answer = reduce t s.side; heads = s.heads })))
+    exact_then (tuple_after (codes "tuple") n) (λ t. side_after n (length t.0.words) t.1 >>= λ s. Ok (record { answer = reduce t.0 s.0.side; heads = s.0.heads; tree_heads = [] }, s.1))
+    (OneRow (IsTupleRow (codes "tuple") n)) (λ t. Then (IsSideRead n (length t.words)) (λ s. Nothing (record { answer = reduce t s.side; heads = s.heads; tree_heads = [] })))
     (exact_tuple (codes "tuple") n h)
-    (λ t. exact_then (side_after n (length t.words)) (λ s. Ok (record { answer = reduce t s.0.side; heads = s.0.heads }, s.1)) (IsSideRead n (length t.words)) (λ s. Nothing (record { answer = reduce t s.side; heads = s.heads }))
-    (exact_side n (length t.words) h) (λ s. exact_none (record { answer = reduce t s.side; heads = s.heads })))
+    (λ t. exact_then (side_after n (length t.words)) (λ s. Ok (record { answer = reduce t s.0.side; heads = s.0.heads; tree_heads = [] }, s.1)) (IsSideRead n (length t.words)) (λ s. Nothing (record { answer = reduce t s.side; heads = s.heads; tree_heads = [] }))
+    (exact_side n (length t.words) h) (λ s. exact_none (record { answer = reduce t s.side; heads = s.heads; tree_heads = [] })))
 
 exact_decided : (n : ℕ) → n ≤ 26 → Exact (decided_after n) (Decided n)
 unfolding decided_after
 exact_decided n h =
     exact_then (tuple_after (codes "first") n)
-    (λ s. like_after (codes "second") n (length s.0.words) s.1 >>= λ t. verdict_after n (length s.0.words) t.1 >>= λ v. Ok (record { answer = decide s.0 t.0 v.0.verdict; heads = v.0.heads }, v.1))
+    (λ s. like_after (codes "second") n (length s.0.words) s.1 >>= λ t. verdict_after n (length s.0.words) t.1 >>= λ v. Ok (record { answer = decide s.0 t.0 v.0.verdict; heads = v.0.heads; tree_heads = [] }, v.1))
     (OneRow (IsTupleRow (codes "first") n))
-    (λ s. Then (OneRow (IsLikeRow (codes "second") n (length s.words))) (λ t. Then (IsVerdictRead n (length s.words)) (λ v. Nothing (record { answer = decide s t v.verdict; heads = v.heads }))))
+    (λ s. Then (OneRow (IsLikeRow (codes "second") n (length s.words))) (λ t. Then (IsVerdictRead n (length s.words)) (λ v. Nothing (record { answer = decide s t v.verdict; heads = v.heads; tree_heads = [] }))))
     (exact_tuple (codes "first") n h)
-    (λ s. exact_then (like_after (codes "second") n (length s.words)) (λ t. verdict_after n (length s.words) t.1 >>= λ v. Ok (record { answer = decide s t.0 v.0.verdict; heads = v.0.heads }, v.1))
-    (OneRow (IsLikeRow (codes "second") n (length s.words))) (λ t. Then (IsVerdictRead n (length s.words)) (λ v. Nothing (record { answer = decide s t v.verdict; heads = v.heads })))
+    (λ s. exact_then (like_after (codes "second") n (length s.words)) (λ t. verdict_after n (length s.words) t.1 >>= λ v. Ok (record { answer = decide s t.0 v.0.verdict; heads = v.0.heads; tree_heads = [] }, v.1))
+    (OneRow (IsLikeRow (codes "second") n (length s.words))) (λ t. Then (IsVerdictRead n (length s.words)) (λ v. Nothing (record { answer = decide s t v.verdict; heads = v.heads; tree_heads = [] })))
     (exact_like (codes "second") n (length s.words) h)
-    (λ t. exact_then (verdict_after n (length s.words)) (λ v. Ok (record { answer = decide s t v.0.verdict; heads = v.0.heads }, v.1)) (IsVerdictRead n (length s.words)) (λ v. Nothing (record { answer = decide s t v.verdict; heads = v.heads }))
-    (exact_verdict n (length s.words) h) (λ v. exact_none (record { answer = decide s t v.verdict; heads = v.heads }))))
+    (λ t. exact_then (verdict_after n (length s.words)) (λ v. Ok (record { answer = decide s t v.0.verdict; heads = v.0.heads; tree_heads = [] }, v.1)) (IsVerdictRead n (length s.words)) (λ v. Nothing (record { answer = decide s t v.verdict; heads = v.heads; tree_heads = [] }))
+    (exact_verdict n (length s.words) h) (λ v. exact_none (record { answer = decide s t v.verdict; heads = v.heads; tree_heads = [] }))))
+
+pub exact_stabilised : (n : ℕ) → n ≤ 26 → Exact (stabilised_after n) (Stabilised n)
+unfolding stabilised_after
+exact_stabilised n h = exact_then (tuple_after (codes "tuple") n) (λ t. with_stab n t.0 t.1) (OneRow (IsTupleRow (codes "tuple") n)) (Stabilises n) (exact_tuple (codes "tuple") n h) (λ t. exact_stab n t h)
 
 -- answers that can't be checked
 exact_untold : Exact {A = AnswerRead} (λ p. Err (errors.NoCertificate 1)) Untold

@@ -2,7 +2,7 @@
 use Rattle.std.proofs.Common.{◌≡◌, ℕ, ◌≤◌, ltb, ◌==◌, true, cond, List, [], ◌∷◌, ◌++◌, length, map, refl, sym, ap, ◌∙◌, subst, arith, append-nil, Result, Ok, Err}
 use Rattle.std.specs.Prelude.{codes, decimal}
 use Rattle.std.proofs.lemmas.Bool.{cond-false, eqb-true}
-use Rattle.wh_words.specs.Limits.{most_rank, most_level_rank}
+use Rattle.wh_words.specs.Limits.{most_rank, most_level_rank, most_stabiliser_rank}
 use Rattle.wh_words.specs.Tuples.{TupleData}
 use Rattle.wh_lines.specs.declared.read_error.ReadError.{ReadError}
 use Rattle.wh_lines.specs.declared.read_error.ReadError.TheVariants as errors
@@ -22,16 +22,18 @@ use Rattle.wh_data.specs.declared.command.Command.{Command}
 use Rattle.wh_data.specs.declared.command.Command.TheVariants as commands
 use Rattle.wh_data.specs.Limits.{most_answer_bytes}
 use Rattle.wh_text.specs.RankLines.{greatest_rank, rank_at, no_rank, rank_after}
-use Rattle.wh_data.specs.AnswerData.{AnswerData, CertificateData}
+use Rattle.wh_data.specs.AnswerData.{AnswerData, CertificateData, StabVerdictData}
+use Rattle.wh_data.specs.AnswerData.StabVerdictData.{done, stopped}
 use Rattle.wh_data.specs.AnswerData.AnswerData.{reduce, decide, straighten, stabiliser}
 use Rattle.wh_data.specs.Commands.{command_name, is_checked, answer_version, heading_row}
 use Rattle.wh_data.specs.AnswerTexts.{verdict_row, done_row}
 use Rattle.wh_text.proofs.CommandNames.{heading_told, heading_back}
 use Rattle.wh_text.specs.Certificates.{in_answer, AnswerRead, answer_with, heading_in, heading_after, done_after, with_end, answer_after, certificate}
-use Rattle.wh_text.specs.CertificateTexts.{IsTupleRow, IsLikeRow, IsSideText, IsVerdictText, IsAnswerText, IsCertificateText, ReadsCertificates}
+use Rattle.wh_text.specs.CertificateTexts.{IsTupleRow, IsLikeRow, IsSideText, IsVerdictText, IsStabText, IsStabAnswerText, IsAnswerText, IsCertificateText, ReadsCertificates}
 use Rattle.wh_text.proofs.RankLaws.{rank_within, rank_is, rank_back}
-use Rattle.wh_text.proofs.ExactLines.{same_row}
-use Rattle.wh_text.proofs.ExactAnswers.{one_then, then_one, alone, Reduced, Decided, Told, exact_told}
+use Rattle.wh_text.proofs.ExactLines.{same_row, alone}
+use Rattle.wh_text.proofs.ExactParts.{Stabilises, stab_there}
+use Rattle.wh_text.proofs.ExactAnswers.{one_then, then_one, Reduced, Decided, Stabilised, Told, exact_told}
 
 -- ---- the heading
 abbrev pub HeadingIs : Row → Command → Type 0
@@ -87,47 +89,71 @@ exact_body =
     (λ c. exact_when (λ p. refused_as in_answer (rank_after c p)) (λ n. answer_with c n.0 n.1) (OneRow (RankIs c)) (Told c) (exact_rank c)
     (λ n rows told. exact_told c n (omega (arith, told.one.most, rank_within c))))
 
-reduced_there : (n : ℕ) (rows : List Row) (x : AnswerRead) → 1 ≤ n → n ≤ most_rank → Reduced n rows x → IsAnswerText (heading_row commands.Reduce ∷ number_row (codes "rank") n ∷ rows ++ done_row ∷ []) x.answer x.heads
+reduced_there : (n : ℕ) (rows : List Row) (x : AnswerRead) → 1 ≤ n → n ≤ most_rank → Reduced n rows x → IsAnswerText (heading_row commands.Reduce ∷ number_row (codes "rank") n ∷ rows ++ done_row ∷ []) x.answer x.heads x.tree_heads
 reduced_there n rows x least most s =
     let h = one_then _ _ rows x s in
     let v = h.two in
-    let side = alone (record { answer = reduce h.x v.x.side; heads = v.x.heads }) x h.later v.first v.second v.parts v.two in
+    let side = alone (record { answer = reduce h.x v.x.side; heads = v.x.heads; tree_heads = [] }) x h.later v.first v.second v.parts v.two in
     let all : List Row = heading_row commands.Reduce ∷ number_row (codes "rank") n ∷ rows ++ done_row ∷ [] in
     let parts : all ≡ heading_row commands.Reduce ∷ number_row (codes "rank") n ∷ h.head ∷ v.first ++ done_row ∷ [] =
     ap (λ rs. heading_row commands.Reduce ∷ number_row (codes "rank") n ∷ rs ++ done_row ∷ []) (h.parts ∙ ap (λ rs. h.head ∷ rs) side) in
-    subst (λ (y : AnswerRead). IsAnswerText all y.answer y.heads) v.two.same
-    (subst (λ (m : ℕ). (tuple_row : Row) × (side : List Row) × (all ≡ heading_row commands.Reduce ∷ number_row (codes "rank") m ∷ tuple_row ∷ side ++ done_row ∷ []) × (1 ≤ m) × (m ≤ most_rank) × IsTupleRow (codes "tuple") m tuple_row h.x × IsSideText m (length h.x.words) side v.x.side v.x.heads)
+    subst (λ (y : AnswerRead). IsAnswerText all y.answer y.heads y.tree_heads) v.two.same
+    (subst (λ (m : ℕ). (tuple_row : Row) × (side : List Row) × (all ≡ heading_row commands.Reduce ∷ number_row (codes "rank") m ∷ tuple_row ∷ side ++ done_row ∷ []) × (1 ≤ m) × (m ≤ most_rank) × IsTupleRow (codes "tuple") m tuple_row h.x × IsSideText m (length h.x.words) side v.x.side v.x.heads × (◌≡◌ {A = List ℕ} [] []))
     (ap (λ (t : TupleData). t.rank) (sym h.one.cyclic))
-    (h.head, v.first, parts, least, most, h.one, v.one))
+    (h.head, v.first, parts, least, most, h.one, v.one, refl))
 
-decided_there : (n : ℕ) (rows : List Row) (x : AnswerRead) → 1 ≤ n → n ≤ most_level_rank → Decided n rows x → IsAnswerText (heading_row commands.Decide ∷ number_row (codes "rank") n ∷ rows ++ done_row ∷ []) x.answer x.heads
+decided_there : (n : ℕ) (rows : List Row) (x : AnswerRead) → 1 ≤ n → n ≤ most_level_rank → Decided n rows x → IsAnswerText (heading_row commands.Decide ∷ number_row (codes "rank") n ∷ rows ++ done_row ∷ []) x.answer x.heads x.tree_heads
 decided_there n rows x least most s =
     let h = one_then _ _ rows x s in
     let g = one_then _ _ h.later x h.two in
     let v = g.two in
-    let told = alone (record { answer = decide h.x g.x v.x.verdict; heads = v.x.heads }) x g.later v.first v.second v.parts v.two in
+    let told = alone (record { answer = decide h.x g.x v.x.verdict; heads = v.x.heads; tree_heads = [] }) x g.later v.first v.second v.parts v.two in
     let all : List Row = heading_row commands.Decide ∷ number_row (codes "rank") n ∷ rows ++ done_row ∷ [] in
     let row = verdict_row v.x.verdict in
     let parts : all ≡ heading_row commands.Decide ∷ number_row (codes "rank") n ∷ h.head ∷ g.head ∷ row ∷ v.one.after ++ done_row ∷ [] =
     ap (λ rs. heading_row commands.Decide ∷ number_row (codes "rank") n ∷ rs ++ done_row ∷ []) (h.parts ∙ ap (λ rs. h.head ∷ rs) (g.parts ∙ ap (λ rs. g.head ∷ rs) (told ∙ v.one.parts))) in
-    subst (λ (y : AnswerRead). IsAnswerText all y.answer y.heads) v.two.same
-    (subst (λ (m : ℕ). (first_row : Row) × (second_row : Row) × (after : List Row) × (all ≡ heading_row commands.Decide ∷ number_row (codes "rank") m ∷ first_row ∷ second_row ∷ row ∷ after ++ done_row ∷ []) × (1 ≤ m) × (m ≤ most_level_rank) × IsTupleRow (codes "first") m first_row h.x × IsLikeRow (codes "second") m (length h.x.words) second_row g.x × IsVerdictText m (length h.x.words) after v.x.verdict v.x.heads)
+    subst (λ (y : AnswerRead). IsAnswerText all y.answer y.heads y.tree_heads) v.two.same
+    (subst (λ (m : ℕ). (first_row : Row) × (second_row : Row) × (after : List Row) × (all ≡ heading_row commands.Decide ∷ number_row (codes "rank") m ∷ first_row ∷ second_row ∷ row ∷ after ++ done_row ∷ []) × (1 ≤ m) × (m ≤ most_level_rank) × IsTupleRow (codes "first") m first_row h.x × IsLikeRow (codes "second") m (length h.x.words) second_row g.x × IsVerdictText m (length h.x.words) after v.x.verdict v.x.heads × (◌≡◌ {A = List ℕ} [] []))
     (ap (λ (t : TupleData). t.rank) (sym h.one.cyclic))
-    (h.head, g.head, v.one.after, parts, least, most, h.one, g.one, v.one.told))
+    (h.head, g.head, v.one.after, parts, least, most, h.one, g.one, v.one.told, refl))
 
-told_there : (c : Command) (n : ℕ) (rows : List Row) (x : AnswerRead) → 1 ≤ n → n ≤ greatest_rank c → Told c n rows x → IsAnswerText (heading_row c ∷ number_row (codes "rank") n ∷ rows ++ done_row ∷ []) x.answer x.heads
+-- What the lines of a stabiliser are told.
+abbrev IsStabilisedText : List Row → AnswerRead → Type 0
+IsStabilisedText rows x = (t : TupleData) × (v : StabVerdictData) × (x.answer ≡ stabiliser t v) × IsStabAnswerText rows t v x.heads x.tree_heads
+
+pub stabilised_there : (n : ℕ) (rows : List Row) (x : AnswerRead) → 1 ≤ n → n ≤ most_stabiliser_rank → Stabilised n rows x → IsStabilisedText (heading_row commands.Stabiliser ∷ number_row (codes "rank") n ∷ rows ++ done_row ∷ []) x
+stabilised_there n rows x least most s =
+    let h = one_then (IsTupleRow (codes "tuple") n) (Stabilises n) rows x s in
+    let v = h.two in
+    let g = v.two in
+    let w = g.two in
+    let last = alone (record { answer = stabiliser h.x (done v.x.side w.x.parts); heads = v.x.heads; tree_heads = w.x.heads }) x g.second w.first w.second w.parts w.two in
+    let later : h.later ≡ v.first ++ (g.first ++ w.first) = v.parts ∙ ap (λ rs. v.first ++ rs) (g.parts ∙ ap (λ rs. g.first ++ rs) last) in
+    let all : List Row = heading_row commands.Stabiliser ∷ number_row (codes "rank") n ∷ rows ++ done_row ∷ [] in
+    let parts : all ≡ heading_row commands.Stabiliser ∷ number_row (codes "rank") n ∷ h.head ∷ h.later ++ done_row ∷ [] = ap (λ rs. heading_row commands.Stabiliser ∷ number_row (codes "rank") n ∷ rs ++ done_row ∷ []) h.parts in
+    let told = stab_there n h.x h.later v.first g.first w.first v.x g.x w.x later v.one g.one w.one in
+    subst (IsStabilisedText all) w.two.same (
+      h.x,
+      done v.x.side w.x.parts,
+      refl,
+      subst (λ (m : ℕ). (tuple_row : Row) × (after : List Row) × (all ≡ heading_row commands.Stabiliser ∷ number_row (codes "rank") m ∷ tuple_row ∷ after ++ done_row ∷ []) × (1 ≤ m) × (m ≤ most_stabiliser_rank) × IsTupleRow (codes "tuple") m tuple_row h.x × IsStabText m (length h.x.words) after (done v.x.side w.x.parts) v.x.heads w.x.heads)
+          (ap (λ (t : TupleData). t.rank) (sym h.one.cyclic))
+          (h.head, h.later, parts, least, most, h.one, told),
+    )
+
+told_there : (c : Command) (n : ℕ) (rows : List Row) (x : AnswerRead) → 1 ≤ n → n ≤ greatest_rank c → Told c n rows x → IsAnswerText (heading_row c ∷ number_row (codes "rank") n ∷ rows ++ done_row ∷ []) x.answer x.heads x.tree_heads
 told_there commands.Reduce n rows x least most s = reduced_there n rows x least most s
 told_there commands.Decide n rows x least most s = decided_there n rows x least most s
 told_there commands.Straighten n rows x least most s = absurd s
 told_there commands.Stabiliser n rows x least most s = absurd s
 
-pub body_there : (rows : List Row) (x : AnswerRead) → Body rows x → IsAnswerText (rows ++ done_row ∷ []) x.answer x.heads
+pub body_there : (rows : List Row) (x : AnswerRead) → Body rows x → IsAnswerText (rows ++ done_row ∷ []) x.answer x.heads x.tree_heads
 body_there rows x s =
     let h = one_then _ _ rows x s in
     let g = one_then _ _ h.later x h.two in
     let parts : rows ≡ heading_row h.x ∷ number_row (codes "rank") g.x ∷ g.later =
     h.parts ∙ ap (λ rs. h.head ∷ rs) g.parts ∙ ap (λ r. r ∷ g.head ∷ g.later) h.one.0 ∙ ap (λ r. heading_row h.x ∷ r ∷ g.later) g.one.spelled in
-    subst (λ (rs : List Row). IsAnswerText (rs ++ done_row ∷ []) x.answer x.heads) (sym parts) (told_there h.x g.x g.later x g.one.least g.one.most g.two)
+    subst (λ (rs : List Row). IsAnswerText (rs ++ done_row ∷ []) x.answer x.heads x.tree_heads) (sym parts) (told_there h.x g.x g.later x g.one.least g.one.most g.two)
 
 headed_back : (c : Command) (n : ℕ) (rows : List Row) (x : AnswerRead) → is_checked c ≡ true → 1 ≤ n → n ≤ greatest_rank c → Told c n rows x → Body (heading_row c ∷ number_row (codes "rank") n ∷ rows) x
 headed_back c n rows x checked least most s =
@@ -147,23 +173,23 @@ headed_back c n rows x checked least most s =
       });
     })
 
-body_again : (rows : List Row) (a : AnswerData) (heads : List (ℕ × ℕ)) → IsAnswerText rows a heads → (rs : List Row) × (rows ≡ rs ++ done_row ∷ []) × Body rs (record { answer = a; heads = heads })
-body_again rows (reduce t s) heads is = (
+body_again : (rows : List Row) (a : AnswerData) (heads : List (ℕ × ℕ)) (trees : List ℕ) → IsAnswerText rows a heads trees → (rs : List Row) × (rows ≡ rs ++ done_row ∷ []) × Body rs (record { answer = a; heads = heads; tree_heads = trees })
+body_again rows (reduce t s) heads trees is = (
   heading_row commands.Reduce ∷ number_row (codes "rank") t.rank ∷ is.0 ∷ is.1,
   is.2,
-  headed_back commands.Reduce t.rank (is.0 ∷ is.1) (record { answer = reduce t s; heads = heads }) refl is.3 is.4 (record {
+  headed_back commands.Reduce t.rank (is.0 ∷ is.1) (record { answer = reduce t s; heads = heads; tree_heads = trees }) refl is.3 is.4 (record {
     x = t;
     first = is.0 ∷ [];
     second = is.1;
     parts = refl;
     one = record { row = is.0; parts = refl; one = is.5 };
-    two = record { x = record { side = s; heads = heads }; first = is.1; second = []; parts = sym (append-nil is.1); one = is.6; two = record { none = refl; same = refl } };
+    two = record { x = record { side = s; heads = heads }; first = is.1; second = []; parts = sym (append-nil is.1); one = is.6; two = record { none = refl; same = ap (λ hs. record { answer = reduce t s; heads = heads; tree_heads = hs }) (sym is.7) } };
   }),
 )
-body_again rows (decide s t v) heads is = (
+body_again rows (decide s t v) heads trees is = (
   heading_row commands.Decide ∷ number_row (codes "rank") s.rank ∷ is.0 ∷ is.1 ∷ verdict_row v ∷ is.2,
   is.3,
-  headed_back commands.Decide s.rank (is.0 ∷ is.1 ∷ verdict_row v ∷ is.2) (record { answer = decide s t v; heads = heads }) refl is.4 is.5 (record {
+  headed_back commands.Decide s.rank (is.0 ∷ is.1 ∷ verdict_row v ∷ is.2) (record { answer = decide s t v; heads = heads; tree_heads = trees }) refl is.4 is.5 (record {
     x = s;
     first = is.0 ∷ [];
     second = is.1 ∷ verdict_row v ∷ is.2;
@@ -181,13 +207,51 @@ body_again rows (decide s t v) heads is = (
         second = [];
         parts = sym (append-nil (verdict_row v ∷ is.2));
         one = record { after = is.2; parts = refl; told = is.8 };
-        two = record { none = refl; same = refl };
+        two = record { none = refl; same = ap (λ hs. record { answer = decide s t v; heads = heads; tree_heads = hs }) (sym is.9) };
       };
     };
   }),
 )
-body_again rows (straighten t given ms u) heads is = absurd is
-body_again rows (stabiliser t v) heads is = absurd is
+body_again rows (straighten t given ms u) heads trees is = absurd is
+body_again rows (stabiliser t v) heads trees is = absurd is
+
+pub stabilised_again : (rows : List Row) (t : TupleData) (v : StabVerdictData) (heads : List (ℕ × ℕ)) (trees : List ℕ) → IsStabAnswerText rows t v heads trees →
+    (rs : List Row) × (rows ≡ heading_row commands.Stabiliser ∷ number_row (codes "rank") t.rank ∷ rs ++ done_row ∷ []) × Stabilised t.rank rs (record { answer = stabiliser t v; heads = heads; tree_heads = trees })
+stabilised_again rows t (stopped bound) heads trees is = absurd is.6
+stabilised_again rows t (done s p) heads trees is =
+    let after = is.6 in (
+      is.0 ∷ is.1,
+      is.2,
+      record {
+        x = t;
+        first = is.0 ∷ [];
+        second = is.1;
+        parts = refl;
+        one = record { row = is.0; parts = refl; one = is.5 };
+        two = record {
+          x = record { side = s; heads = heads };
+          first = after.0;
+          second = after.1 ++ after.2;
+          parts = after.3;
+          one = after.4;
+          two = record {
+            x = p.vertices;
+            first = after.1;
+            second = after.2;
+            parts = refl;
+            one = after.5;
+            two = record {
+              x = record { parts = p; heads = trees };
+              first = after.2;
+              second = [];
+              parts = sym (append-nil after.2);
+              one = (after.6, refl);
+              two = record { none = refl; same = refl };
+            };
+          };
+        };
+      },
+    )
 
 -- ---- the last line
 pub no_length_fields : (fs : List Field) → length fs ≡ 0 → map (λ f. f.bytes) fs ≡ []
@@ -253,7 +317,7 @@ answer_split p = by (heading_after p)
     by (Err e) = refl
 
 abbrev pub certified : AnswerRead × Reading → Result CertificateData ReadError
-certified read = Ok (record { answer = read.0.answer; lines = read.1.taken; flow_heads = read.0.heads })
+certified read = Ok (record { answer = read.0.answer; lines = read.1.taken; flow_heads = read.0.heads; tree_heads = read.0.tree_heads })
 
 certificate_is : (bytes : List ℕ) (c : CertificateData) → certificate bytes ≡ Ok c → (length bytes ≤ most_answer_bytes) × IsCertificateText bytes c
 unfolding certificate
@@ -271,11 +335,11 @@ certificate_is bytes c e =
     let same = passes_one rows at a.0.1 (record { taken = kept_numbers 1 (lines bytes); rest = end all.0 }) passes all.1 in
     let have = holds_is 1 (lines bytes) rows holds in (
       not_more most_answer_bytes (length bytes) size.0,
-      subst (IsCertificateText bytes) (ok_is (record { answer = a.0.0.answer; lines = a.0.1.taken; flow_heads = a.0.0.heads }) c a.2) (record {
+      subst (IsCertificateText bytes) (ok_is (record { answer = a.0.0.answer; lines = a.0.1.taken; flow_heads = a.0.0.heads; tree_heads = a.0.0.tree_heads }) c a.2) (record {
         clean = have.clean;
         rows = rows;
         kept = have.texts;
-        told = subst (λ (x : AnswerRead). IsAnswerText rows x.answer x.heads) d.0 (body_there s.rows b.0.0 s.told);
+        told = subst (λ (x : AnswerRead). IsAnswerText rows x.answer x.heads x.tree_heads) d.0 (body_there s.rows b.0.0 s.told);
         numbers = ap (λ (r : Reading). r.taken) same;
       }),
     )
@@ -284,15 +348,15 @@ certificate_is bytes c e =
 pub answer_back : (bytes : List ℕ) (c : CertificateData) → IsCertificateText bytes c → (x : AnswerRead × Reading) × (answer_after (start bytes) ≡ Ok x) × (certified x ≡ Ok c)
 answer_back bytes c t =
     let at : Reading = start bytes in
-    let b = body_again t.rows c.answer c.flow_heads t.told in
+    let b = body_again t.rows c.answer c.flow_heads c.tree_heads t.told in
     let all = holds_passes 1 [] (lines bytes) t.rows (holds_back 1 (lines bytes) t.rows (record { clean = t.clean; texts = t.kept })) in
     let q : Reading = record { taken = kept_numbers 1 (lines bytes); rest = end all.0 } in
     let passes = passes_split b.0 (done_row ∷ []) at q (subst (λ (rs : List Row). Passes rs at q) b.1 all.1) in
-    let x : AnswerRead = record { answer = c.answer; heads = c.flow_heads } in
+    let x : AnswerRead = record { answer = c.answer; heads = c.flow_heads; tree_heads = c.tree_heads } in
     let read : body at ≡ Ok (x, passes.0) = exact_body.back at passes.0 x b.0 b.2 passes.1 in (
       (x, q),
       answer_split at ∙ ap (λ r. r >>= finish) read ∙ end_back x passes.0 q all.0 passes.2 refl,
-      ap (λ ns. Ok (record { answer = c.answer; lines = ns; flow_heads = c.flow_heads })) (sym t.numbers),
+      ap (λ ns. Ok (record { answer = c.answer; lines = ns; flow_heads = c.flow_heads; tree_heads = c.tree_heads })) (sym t.numbers),
     )
 
 certificate_back : (bytes : List ℕ) (c : CertificateData) → length bytes ≤ most_answer_bytes → IsCertificateText bytes c → certificate bytes ≡ Ok c

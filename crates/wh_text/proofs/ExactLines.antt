@@ -33,6 +33,10 @@ use Rattle.wh_words.specs.Limits.{most_level_tuples}
 pub same_row : (k : Kept) (keyword : List ℕ) (fs : List (List ℕ)) → k.keyword ≡ keyword → map (λ f. f.bytes) k.fields ≡ fs → row_of k ≡ record { keyword = keyword; fields = fs }
 same_row k keyword fs e f = ap (λ w. record { keyword = w; fields = map (λ f. f.bytes) k.fields }) e ∙ ap (λ gs. record { keyword = keyword; fields = gs }) f
 
+-- nothing follows the first
+pub alone : {A : Type 0} (y z : A) (rows first second : List Row) → rows ≡ first ++ second → Nothing y second z → rows ≡ first
+alone y z rows first second e n = e ∙ ap (λ rs. first ++ rs) n.none ∙ append-nil first
+
 -- ---- tuples
 tuple_is_row : (keyword : List ℕ) (n : ℕ) → n ≤ 26 → (k : Kept) (t : TupleData) → AreSome k.fields → k.keyword ≡ keyword → refused_as in_answer (tuple_at n k.number k.fields) ≡ Ok t → IsTupleRow keyword n (row_of k) t
 tuple_is_row keyword n h k t some is e =

@@ -38,7 +38,7 @@ goes_on bytes l c b =
       text = t.text;
       after = t.after;
       parts = t.parts;
-      c = record { answer = c.x.answer; lines = kept_numbers 1 (lines t.text); flow_heads = c.x.heads };
+      c = record { answer = c.x.answer; lines = kept_numbers 1 (lines t.text); flow_heads = c.x.heads; tree_heads = c.x.tree_heads };
       is = record { clean = t.have.clean; rows = c.passed ++ c.more; kept = t.have.texts; told = c.told; numbers = refl };
     }
 

@@ -28,10 +28,13 @@ use Rattle.wh_data.specs.Commands.{command_named, is_checked, is_unchecked_name,
 use Rattle.wh_text.specs.RankLines.{greatest_rank, rank_at, rank_number, no_rank, rank_after}
 use Rattle.wh_data.specs.AnswerData.{CertificateData}
 use Rattle.wh_data.specs.AnswerData.VerdictData.{yes, no_length, no_level}
-use Rattle.wh_data.specs.AnswerData.AnswerData.{reduce, decide}
-use Rattle.wh_text.specs.Certificates.{in_answer, tuple_after, like_of, like_after, moves_after, flow_after, side_with, side_after, number_in, level_after, VerdictWord, verdict_in, sides_after, verdict_with, verdict_after, AnswerRead, reduced_after, decided_after, answer_with, checked_command, command_at, heading_in, heading_after, done_after, answer_after, certificate}
+use Rattle.wh_data.specs.AnswerData.StabVerdictData.{done}
+use Rattle.wh_data.specs.AnswerData.AnswerData.{reduce, decide, stabiliser}
+use Rattle.wh_text.specs.Certificates.{in_answer, tuple_after, like_of, like_after, moves_after, flow_after, side_with, side_after, number_in, level_after, VerdictWord, verdict_in, sides_after, verdict_with, verdict_after, AnswerRead, reduced_after, decided_after, unless_undecided, parts_after, with_parts, with_stab, stabilised_after, answer_with, checked_command, command_at, heading_in, heading_after, done_after, answer_after, certificate}
 use Rattle.wh_text.specs.Certificates.VerdictWord.{a_yes, a_no_length, a_no_level}
 use Rattle.wh_text.specs.CertificateTexts.{IsCertificateText}
+use Rattle.wh_text.proofs.ExactParts.{stab_lines, stab_split}
+use Rattle.wh_text.proofs.FirstParts.{local_parts, local_undecided}
 use Rattle.wh_text.proofs.ExactCertificates.{body, finish, answer_split, certified, answer_back}
 
 -- ---- tuples
@@ -181,20 +184,34 @@ local_verdict l n count =
 local_reduced : (l n : ℕ) → Local l (reduced_after n)
 unfolding reduced_after
 local_reduced l n =
-    local_then l (tuple_after (codes "tuple") n) (λ t. side_after n (length t.0.words) t.1 >>= λ s. Ok (record { answer = reduce t.0 s.0.side; heads = s.0.heads }, s.1)) (local_tuple l (codes "tuple") n)
-    (λ t. local_then l (side_after n (length t.words)) (λ s. Ok (record { answer = reduce t s.0.side; heads = s.0.heads }, s.1)) (local_side l n (length t.words))
-    (λ s. local_none l (record { answer = reduce t s.side; heads = s.heads })))
+    local_then l (tuple_after (codes "tuple") n) (λ t. side_after n (length t.0.words) t.1 >>= λ s. Ok (record { answer = reduce t.0 s.0.side; heads = s.0.heads; tree_heads = [] }, s.1)) (local_tuple l (codes "tuple") n)
+    (λ t. local_then l (side_after n (length t.words)) (λ s. Ok (record { answer = reduce t s.0.side; heads = s.0.heads; tree_heads = [] }, s.1)) (local_side l n (length t.words))
+    (λ s. local_none l (record { answer = reduce t s.side; heads = s.heads; tree_heads = [] })))
 
 local_decided : (l n : ℕ) → Local l (decided_after n)
 unfolding decided_after
 local_decided l n =
     local_then l (tuple_after (codes "first") n)
-    (λ s. like_after (codes "second") n (length s.0.words) s.1 >>= λ t. verdict_after n (length s.0.words) t.1 >>= λ v. Ok (record { answer = decide s.0 t.0 v.0.verdict; heads = v.0.heads }, v.1))
+    (λ s. like_after (codes "second") n (length s.0.words) s.1 >>= λ t. verdict_after n (length s.0.words) t.1 >>= λ v. Ok (record { answer = decide s.0 t.0 v.0.verdict; heads = v.0.heads; tree_heads = [] }, v.1))
     (local_tuple l (codes "first") n)
-    (λ s. local_then l (like_after (codes "second") n (length s.words)) (λ t. verdict_after n (length s.words) t.1 >>= λ v. Ok (record { answer = decide s t.0 v.0.verdict; heads = v.0.heads }, v.1))
+    (λ s. local_then l (like_after (codes "second") n (length s.words)) (λ t. verdict_after n (length s.words) t.1 >>= λ v. Ok (record { answer = decide s t.0 v.0.verdict; heads = v.0.heads; tree_heads = [] }, v.1))
     (local_like l (codes "second") n (length s.words))
-    (λ t. local_then l (verdict_after n (length s.words)) (λ v. Ok (record { answer = decide s t v.0.verdict; heads = v.0.heads }, v.1)) (local_verdict l n (length s.words))
-    (λ v. local_none l (record { answer = decide s t v.verdict; heads = v.heads }))))
+    (λ t. local_then l (verdict_after n (length s.words)) (λ v. Ok (record { answer = decide s t v.0.verdict; heads = v.0.heads; tree_heads = [] }, v.1)) (local_verdict l n (length s.words))
+    (λ v. local_none l (record { answer = decide s t v.verdict; heads = v.heads; tree_heads = [] }))))
+
+local_stab : (l n : ℕ) (t : TupleData) → Local l (with_stab n t)
+local_stab l n t =
+    local_by l (λ p. unless_undecided p.rest (stab_lines n t p)) (with_stab n t) (stab_split n t)
+    (local_undecided l (stab_lines n t)
+    (local_then l (side_after n (length t.words)) (λ s. with_parts n t s.0 s.1) (local_side l n (length t.words))
+    (λ s. local_then l (level_after n (length t.words)) (λ vs. parts_after n s.side.end vs.0 vs.1 >>= λ ps. Ok (record { answer = stabiliser t (done s.side ps.0.parts); heads = s.heads; tree_heads = ps.0.heads }, ps.1))
+    (local_level l n (length t.words))
+    (λ vs. local_then l (parts_after n s.side.end vs) (λ ps. Ok (record { answer = stabiliser t (done s.side ps.0.parts); heads = s.heads; tree_heads = ps.0.heads }, ps.1)) (local_parts l n s.side.end vs)
+    (λ ps. local_none l (record { answer = stabiliser t (done s.side ps.parts); heads = s.heads; tree_heads = ps.heads }))))))
+
+pub local_stabilised : (l n : ℕ) → Local l (stabilised_after n)
+unfolding stabilised_after
+local_stabilised l n = local_then l (tuple_after (codes "tuple") n) (λ t. with_stab n t.0 t.1) (local_tuple l (codes "tuple") n) (λ t. local_stab l n t)
 
 -- answers that can't be checked
 local_refused : (l : ℕ) → Local {A = AnswerRead} l (λ p. Err (errors.NoCertificate 1))

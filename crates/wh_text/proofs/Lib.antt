@@ -1,3 +1,5 @@
+pub mod FirstTraces
+pub mod Trees
 pub mod RankLaws
 pub mod CommandNames
 pub mod StatedLines
@@ -6,13 +8,17 @@ pub mod ProblemLaws
 pub mod BadByteLaws
 pub mod ReadSides
 pub mod ReadVerdicts
+pub mod ReadParts
 pub mod ReadAnswers
 pub mod ReadBack
 pub mod NumberedAnswers
 pub mod ExactCertificates
 pub mod ExactLines
+pub mod ExactParts
 pub mod ExactAnswers
+pub mod FirstParts
 pub mod FirstLines
 pub mod CompletedLines
+pub mod CompletedParts
 pub mod CompletedAnswers
 pub mod FirstBadLines

@@ -12,7 +12,7 @@ use Rattle.wh_lines.specs.Laws.{numbers_from}
 use Rattle.wh_data.specs.AnswerData.{CertificateData}
 use Rattle.wh_text.specs.Certificates.{AnswerRead, answer_after, certificate}
 use Rattle.wh_data.specs.Limits.{most_answer_bytes}
-use Rattle.wh_data.specs.AnswerParts.{heads_of}
+use Rattle.wh_data.specs.AnswerParts.{heads_of, tree_heads_of}
 use Rattle.wh_text.specs.ReadingBack.{ReadsBack}
 use Rattle.wh_lines.proofs.Equations.{is_not_more}
 use Rattle.wh_lines.specs.Rows.{Row, row_bytes, rows_text}
@@ -23,7 +23,7 @@ use Rattle.wh_text.proofs.ReadAnswers.{TellAnswer, answer_read}
 
 -- the certificate of an answer that was read, where none of these lines is skipped
 abbrev whole : AnswerRead → List ℕ → CertificateData
-whole told numbers = record { answer = told.answer; lines = numbers; flow_heads = told.heads }
+whole told numbers = record { answer = told.answer; lines = numbers; flow_heads = told.heads; tree_heads = told.tree_heads }
 
 rows_read : (told : AnswerRead) (rows : List Row) → TellAnswer told rows → length (rows_text rows) ≤ most_answer_bytes → certificate (rows_text rows) ≡ Ok (whole told (numbers_from 1 (length rows)))
 unfolding certificate
@@ -40,4 +40,4 @@ rows_read told rows h l =
 
 pub reads_back : ReadsBack
 unfolding answer_text
-reads_back a h l = rows_read (record { answer = a; heads = heads_of a }) (rows_of a) (answer_read a h) l
+reads_back a h l = rows_read (record { answer = a; heads = heads_of a; tree_heads = tree_heads_of a }) (rows_of a) (answer_read a h) l

@@ -17,7 +17,7 @@ use Rattle.wh_fields.specs.FlowFields.{flow_value, FlowData, flow_in, IsFlowOf, 
 use Rattle.wh_fields.specs.TupleFields.{tuple_at, IsTupleOf, words_row}
 use Rattle.wh_lines.specs.LineReadings.{times}
 use Rattle.wh_data.specs.AnswerData.{SideData}
-use Rattle.wh_text.specs.Certificates.{in_answer, tuple_after, like_of, like_after, moves_after, flow_after, SideRead, side_with, side_after}
+use Rattle.wh_text.specs.Certificates.{in_answer, tuple_after, like_of, like_after, moves_after, flow_after, SideRead, side_with, with_flows, ended_after, side_after}
 use Rattle.wh_data.specs.AnswerParts.{IsSideOf}
 use Rattle.wh_lines.proofs.Scanning.{eq_true}
 use Rattle.wh_fields.proofs.TupleLaws.{tuple_back}
@@ -30,7 +30,7 @@ use Rattle.wh_fields.proofs.ReadFlows.{flow_back}
 use Rattle.wh_data.specs.AnswerTexts.{side_rows}
 
 -- ---- moves
-kind_of : (n : ℕ) (m : Move) → IsMoveOf n m → IsKind n m.kind
+pub kind_of : (n : ℕ) (m : Move) → IsMoveOf n m → IsKind n m.kind
 kind_of n m h = subst (λ (k : ℕ). IsKind k m.kind) h.1 h.0.kind
 
 move_back : (n l : ℕ) (f : Field) (m : Move) → n ≤ 26 → IsMoveOf n m → f.bytes ≡ kind_text m.kind → move_at n l f ≡ Ok m
@@ -49,7 +49,7 @@ moves_back n l (f ∷ fs) (m ∷ ms) h a e =
     ap (λ r. r >>= λ x. moves_at n l fs >>= λ xs. Ok (x ∷ xs)) (move_back n l f m h (All-head (IsMoveOf n) m ms a) first)
     ∙ ap (λ r. r >>= λ xs. Ok (m ∷ xs)) (moves_back n l fs ms h (All-tail (IsMoveOf n) m ms a) rest)
 
-moves_shown : (n : ℕ) (ms : List Move) → n ≤ 26 → All (IsMoveOf n) ms → All IsShown (map (λ m. kind_text m.kind) ms)
+pub moves_shown : (n : ℕ) (ms : List Move) → n ≤ 26 → All (IsMoveOf n) ms → All IsShown (map (λ m. kind_text m.kind) ms)
 moves_shown n ms h a = All-map IsShown (λ m. kind_text m.kind) ms (All-weaker (IsMoveOf n) (λ m. IsShown (kind_text m.kind)) (λ m i. kind_shown n m.kind h (kind_of n m i)) ms a)
 
 pub moves_read : (keyword : List ℕ) (n : ℕ) (ms : List Move) → IsShown keyword → n ≤ 26 → All (IsMoveOf n) ms → ReadsRows (moves_after keyword n) ms (moves_row keyword ms ∷ [])
@@ -132,9 +132,8 @@ flows_read n g (f ∷ fs) h each =
 abbrev pub side_told : SideData → SideRead
 side_told s = record { side = s; heads = heads_from 0 s.flows }
 
-pub side_read : (n count : ℕ) (s : SideData) → n ≤ 26 → IsSideOf n count s → ReadsRows (side_after n count) (side_told s) (side_rows s)
-unfolding side_after
-side_read n count s h i =
+pub ended_read : (n count : ℕ) (s : SideData) → n ≤ 26 → IsSideOf n count s → ReadsRows (ended_after n count s.trace) (side_told s) (words_row (codes "end") s.end.words ∷ flow_rows s.end.rank 0 s.flows)
+ended_read n count s h i =
     let flows = flows_data 0 s.flows in
     let told : side_with s.trace s.end flows ≡ side_told s =
     ap (λ ts. record { side = record { trace = s.trace; end = s.end; flows = ts }; heads = map (λ d. d.head) flows }) (tables_are 0 s.flows)
@@ -143,10 +142,14 @@ side_read n count s h i =
     subst (λ (k : ℕ). ReadsRows (times (flow_after n) n) flows (flow_rows k 0 s.flows)) (sym i.end.rank)
     (subst (λ (k : ℕ). ReadsRows (times (flow_after n) k) flows (flow_rows n 0 s.flows)) i.flows
     (flows_read n 0 s.flows h (λ j l. subst (λ (k : ℕ). (k < n) × IsFlowOf n k (get_or s.flows j [])) (omega arith) (omega (arith, l, i.flows), i.each j (omega (arith, l, i.flows)))))) in
-    reads_then (moves_after (codes "trace") n) (λ ms. like_after (codes "end") n count ms.1 >>= λ t. times (flow_after n) n t.1 >>= λ fs. Ok (side_with ms.0 t.0 fs.0, fs.1))
-    s.trace (side_told s) (moves_row (codes "trace") s.trace ∷ []) (words_row (codes "end") s.end.words ∷ flow_rows s.end.rank 0 s.flows)
-    (moves_read (codes "trace") n s.trace (written_shown 116 (codes "race") refl) h i.trace)
-    (reads_then (like_after (codes "end") n count) (λ t. times (flow_after n) n t.1 >>= λ fs. Ok (side_with s.trace t.0 fs.0, fs.1))
+    reads_then (like_after (codes "end") n count) (λ t. with_flows n s.trace t.0 t.1)
     s.end (side_told s) (words_row (codes "end") s.end.words ∷ []) (flow_rows s.end.rank 0 s.flows)
     (like_read (codes "end") n count s.end (written_shown 101 (codes "nd") refl) h i.end)
-    (reads_as (times (flow_after n) n) (λ fs. Ok (side_with s.trace s.end fs.0, fs.1)) flows (side_told s) (flow_rows s.end.rank 0 s.flows) last (λ p. ap (λ x. Ok (x, p)) told)))
+    (reads_as (times (flow_after n) n) (λ fs. Ok (side_with s.trace s.end fs.0, fs.1)) flows (side_told s) (flow_rows s.end.rank 0 s.flows) last (λ p. ap (λ x. Ok (x, p)) told))
+
+pub side_read : (n count : ℕ) (s : SideData) → n ≤ 26 → IsSideOf n count s → ReadsRows (side_after n count) (side_told s) (side_rows s)
+unfolding side_after
+side_read n count s h i =
+    reads_then (moves_after (codes "trace") n) (λ ms. ended_after n count ms.0 ms.1)
+    s.trace (side_told s) (moves_row (codes "trace") s.trace ∷ []) (words_row (codes "end") s.end.words ∷ flow_rows s.end.rank 0 s.flows)
+    (moves_read (codes "trace") n s.trace (written_shown 116 (codes "race") refl) h i.trace) (ended_read n count s h i)

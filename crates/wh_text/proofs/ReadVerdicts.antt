@@ -55,7 +55,7 @@ tuples_read n count (t ∷ ts) h a =
     (like_read (codes "at") n count t (written_shown 97 (codes "t") refl) h (All-head (IsTupleOf n count) t ts a))
     (tuples_read n count ts h (All-tail (IsTupleOf n count) t ts a))
 
-level_read : (n count : ℕ) (ts : List TupleData) → n ≤ 26 → All (IsTupleOf n count) ts → 1 ≤ length ts → length ts ≤ most_level_tuples → ReadsRows (level_after n count) ts (level_rows ts)
+pub level_read : (n count : ℕ) (ts : List TupleData) → n ≤ 26 → All (IsTupleOf n count) ts → 1 ≤ length ts → length ts ≤ most_level_tuples → ReadsRows (level_after n count) ts (level_rows ts)
 unfolding level_after
 level_read n count ts h a l m =
     number_then (codes "level") 1 most_level_tuples (length ts) (λ q. times (like_after (codes "at") n count) q.0 q.1) ts (at_rows ts)

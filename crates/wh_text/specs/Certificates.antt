@@ -1,7 +1,7 @@
 -- The text of an answer that can be checked, of `reduce` or `decide`, and the first refusal of a text that isn't one.
-use Rattle.std.specs.Prelude.{ℕ, ◌==◌, leb, ltb, ◌&&◌, ◌||◌, Bool, cond, List, [], ◌∷◌, ◌++◌, length, map, Option, Some, None, is_some, Result, Ok, Err, codes}
+use Rattle.std.specs.Prelude.{ℕ, ◌-◌, ◌==◌, leb, ltb, ◌&&◌, ◌||◌, Bool, false, cond, List, [], ◌∷◌, ◌++◌, length, map, take, drop, Option, Some, None, is_some, Result, Ok, Err, codes, decimal}
 use Rattle.wh_data.specs.Limits.{most_answer_bytes}
-use Rattle.wh_words.specs.Limits.{most_level_tuples}
+use Rattle.wh_words.specs.Limits.{most_level_tuples, most_level_edges, most_relators}
 use Rattle.wh_words.specs.Tuples.{TupleData}
 use Rattle.wh_words.specs.Moves.{Move}
 use Rattle.wh_data.specs.declared.command.Command.{Command}
@@ -11,14 +11,19 @@ use Rattle.wh_lines.specs.declared.read_error.ReadError.TheVariants as errors
 use Rattle.wh_lines.specs.Lines.{Field, are}
 use Rattle.wh_lines.specs.Readings.{◌>>=◌, or_bad_line, refused_as}
 use Rattle.wh_lines.specs.Numbers.{number}
-use Rattle.wh_lines.specs.KeptLines.{Kept}
+use Rattle.wh_lines.specs.KeptLines.{Kept, Rest}
+use Rattle.wh_lines.specs.KeptLines.Rest.{line as a_line, bad_byte, end as at_end}
 use Rattle.wh_fields.specs.TupleFields.{tuple_at}
 use Rattle.wh_fields.specs.FlowFields.{FlowData, flow_in}
+use Rattle.wh_fields.specs.StabiliserFields.{TreeEdgeData, tree_edge_in, generator_in, RelatorLineData, relator_in}
 use Rattle.wh_data.specs.Commands.{command_named, is_checked, is_unchecked_name, answer_version}
 use Rattle.wh_text.specs.RankLines.{rank_after}
-use Rattle.wh_data.specs.AnswerData.{SideData, VerdictData, AnswerData, CertificateData}
+use Rattle.wh_data.specs.declared.answer.Loop.{Loop}
+use Rattle.wh_data.specs.RootPlaces.{root_place}
+use Rattle.wh_data.specs.AnswerData.{SideData, VerdictData, PartsData, StabVerdictData, AnswerData, CertificateData}
 use Rattle.wh_data.specs.AnswerData.VerdictData.{yes, no_length, no_level}
-use Rattle.wh_data.specs.AnswerData.AnswerData.{reduce, decide}
+use Rattle.wh_data.specs.AnswerData.StabVerdictData.{done}
+use Rattle.wh_data.specs.AnswerData.AnswerData.{reduce, decide, stabiliser}
 use Rattle.wh_lines.specs.LineReadings.{Reading, start, line_after, end_after, times}
 use Rattle.wh_fields.specs.MoveFields.{moves_at}
 
@@ -82,12 +87,17 @@ with_flows n ms t p =
     times (flow_after n) n p >>= λ fs.
     Ok (side_with ms t fs.0, fs.1)
 
+-- The side of a trace, with the end and the flows of the next lines.
+abbrev pub ended_after : ℕ → ℕ → List Move → Reading → Result (SideRead × Reading) ReadError
+ended_after n count ms p =
+    like_after (codes "end") n count p >>= λ t.
+    with_flows n ms t.0 t.1
+
 -- The next lines are a side in rank n: `trace`, `end`, and a `flow` line for each generator.
 unfoldable pub side_after : ℕ → ℕ → Reading → Result (SideRead × Reading) ReadError
 side_after n count p =
     moves_after (codes "trace") n p >>= λ ms.
-    like_after (codes "end") n count ms.1 >>= λ t.
-    with_flows n ms.0 t.0 t.1
+    ended_after n count ms.0 ms.1
 
 -- A number of a range.
 abbrev pub within : ℕ → ℕ → Option ℕ → Option ℕ
@@ -174,24 +184,112 @@ verdict_after n count p =
     verdict_in k.0.number k.0.fields >>= λ word.
     verdict_with n count word k.1
 
+-- ---- stabilisers
+-- Whether two fields tell a bound of `stabiliser`: a word, and a number, which the word may tell.
+abbrev pub is_stab_bound : List ℕ → List ℕ → Bool
+is_stab_bound word n =
+    is_bound word n
+    || ((are word (codes "edges") && are n (decimal most_level_edges))
+    || (are word (codes "relators") && are n (decimal most_relators)))
+
+-- Whether fields tell an undecided verdict of `stabiliser`.
+abbrev pub is_undecided_in : List Field → Bool
+is_undecided_in [] = false
+is_undecided_in (f ∷ []) = false
+is_undecided_in (f ∷ g ∷ []) = false
+is_undecided_in (f ∷ g ∷ h ∷ []) = are f.bytes (codes "undecided") && is_stab_bound g.bytes h.bytes
+is_undecided_in (f ∷ g ∷ h ∷ i ∷ fs) = false
+
+-- What is read, where the next line isn't a `verdict` line with an undecided verdict. Such an answer is no certificate.
+abbrev pub unless_undecided : {A : Type 0} → Rest → Result A ReadError → Result A ReadError
+unless_undecided (a_line k later) r = cond (are k.keyword (codes "verdict") && is_undecided_in k.fields) (Err (errors.NoCertificate k.number)) r
+unless_undecided (bad_byte l c) r = r
+unless_undecided (at_end l) r = r
+
+-- The next line has the moves of a trace, with which a stabiliser begins that isn't undecided.
+unfoldable pub stab_trace_after : ℕ → Reading → Result (List Move × Reading) ReadError
+stab_trace_after n p = unless_undecided p.rest (moves_after (codes "trace") n p)
+
+-- The next line tells an edge of a tree in rank n.
+unfoldable pub tree_edge_after : ℕ → Reading → Result (TreeEdgeData × Reading) ReadError
+tree_edge_after n p =
+    line_after (codes "tree") p >>= λ k.
+    or_bad_line k.0.number (tree_edge_in n k.0.fields) >>= λ e.
+    Ok (e, k.1)
+
+-- The next line tells a generator in rank n.
+unfoldable pub generator_after : ℕ → Reading → Result ((ℕ × Move) × Reading) ReadError
+generator_after n p =
+    line_after (codes "generator") p >>= λ k.
+    or_bad_line k.0.number (generator_in n k.0.fields) >>= λ g.
+    Ok (g, k.1)
+
+-- The next line tells a relator in rank n.
+unfoldable pub relator_after : ℕ → Reading → Result (RelatorLineData × Reading) ReadError
+relator_after n p =
+    line_after (codes "relator") p >>= λ k.
+    or_bad_line k.0.number (relator_in n k.0.fields) >>= λ r.
+    Ok (r, k.1)
+
+-- As many readings as a line tells that counts them, at most so many.
+abbrev pub counted_with : {A : Type 0} → ℕ → (Reading → Result (A × Reading) ReadError) → Kept → Reading → Result (List A × Reading) ReadError
+counted_with most each k p =
+    or_bad_line k.number (number_in 0 most k.fields) >>= λ size.
+    times each size p
+
+-- The next line has this keyword and counts the readings of the lines after it.
+abbrev pub counted_after : {A : Type 0} → List ℕ → ℕ → (Reading → Result (A × Reading) ReadError) → Reading → Result (List A × Reading) ReadError
+counted_after keyword most each p =
+    line_after keyword p >>= λ k.
+    counted_with most each k.0 k.1
+
+-- What presents a stabiliser, and the numbers of the vertices that its `tree` lines name.
+pub record PartsRead : Type 0 where
+  pub parts : PartsData
+  pub heads : List ℕ
+
+-- The parents of a tree: those of the edges that were read, one after another, where the root has none.
+abbrev pub tree_with : ℕ → List TreeEdgeData → List (Option (ℕ × Move))
+tree_with root es = map (λ e. Some (e.parent, e.move)) (take root es) ++ None ∷ map (λ e. Some (e.parent, e.move)) (drop root es)
+
+-- The relator that a line tells.
+abbrev pub loop_of : RelatorLineData → Loop
+loop_of r = record { at = r.at; moves = r.moves; word = r.word }
+
+-- What presents the stabiliser of an end by these vertices.
+abbrev pub parts_with : TupleData → List TupleData → List TreeEdgeData → List (ℕ × Move) → List RelatorLineData → PartsRead
+parts_with end vs es gs rs = record {
+  parts = record { vertices = vs; tree = tree_with (root_place end vs) es; generators = gs; relators = map loop_of rs };
+  heads = map (λ e. e.head) es;
+}
+
+-- The next lines present the stabiliser of an end by these vertices, in rank n: a `tree` line for each but one, then the generators and the relators, each with a line that counts them.
+unfoldable pub parts_after : ℕ → TupleData → List TupleData → Reading → Result (PartsRead × Reading) ReadError
+parts_after n end vs p =
+    times (tree_edge_after n) (length vs - 1) p >>= λ es.
+    counted_after (codes "generators") most_level_edges (generator_after n) es.1 >>= λ gs.
+    counted_after (codes "relators") most_relators (relator_after n) gs.1 >>= λ rs.
+    Ok (parts_with end vs es.0 gs.0 rs.0, rs.1)
+
 -- ---- the text
--- An answer, and the letters and values that its `flow` lines name.
+-- An answer, the letters and values that its `flow` lines name, and the numbers of the vertices that its `tree` lines name.
 pub record AnswerRead : Type 0 where
   pub answer : AnswerData
   pub heads : List (ℕ × ℕ)
+  pub tree_heads : List ℕ
 
 -- The lines of an answer of `reduce`, after that of the rank n.
 unfoldable pub reduced_after : ℕ → Reading → Result (AnswerRead × Reading) ReadError
 reduced_after n p =
     tuple_after (codes "tuple") n p >>= λ t.
     side_after n (length t.0.words) t.1 >>= λ s.
-    Ok (record { answer = reduce t.0 s.0.side; heads = s.0.heads }, s.1)
+    Ok (record { answer = reduce t.0 s.0.side; heads = s.0.heads; tree_heads = [] }, s.1)
 
 -- The answer of two tuples, with the verdict of the next lines.
 abbrev pub with_verdict : ℕ → TupleData → TupleData → Reading → Result (AnswerRead × Reading) ReadError
 with_verdict n s t p =
     verdict_after n (length s.words) p >>= λ v.
-    Ok (record { answer = decide s t v.0.verdict; heads = v.0.heads }, v.1)
+    Ok (record { answer = decide s t v.0.verdict; heads = v.0.heads; tree_heads = [] }, v.1)
 
 -- The answer of a first tuple, with the second of the next line, and the verdict.
 abbrev pub with_second : ℕ → TupleData → Reading → Result (AnswerRead × Reading) ReadError
@@ -204,6 +302,26 @@ unfoldable pub decided_after : ℕ → Reading → Result (AnswerRead × Reading
 decided_after n p =
     tuple_after (codes "first") n p >>= λ s.
     with_second n s.0 s.1
+
+-- The answer of a tuple and its side, with the level and what presents the stabiliser of the next lines.
+abbrev pub with_parts : ℕ → TupleData → SideRead → Reading → Result (AnswerRead × Reading) ReadError
+with_parts n t s p =
+    level_after n (length t.words) p >>= λ vs.
+    parts_after n s.side.end vs.0 vs.1 >>= λ ps.
+    Ok (record { answer = stabiliser t (done s.side ps.0.parts); heads = s.heads; tree_heads = ps.0.heads }, ps.1)
+
+-- The answer of a tuple, with the side and all that follows it of the next lines.
+abbrev pub with_stab : ℕ → TupleData → Reading → Result (AnswerRead × Reading) ReadError
+with_stab n t p =
+    stab_trace_after n p >>= λ ms.
+    ended_after n (length t.words) ms.0 ms.1 >>= λ s.
+    with_parts n t s.0 s.1
+
+-- The lines of an answer of `stabiliser`.
+unfoldable pub stabilised_after : ℕ → Reading → Result (AnswerRead × Reading) ReadError
+stabilised_after n p =
+    tuple_after (codes "tuple") n p >>= λ t.
+    with_stab n t.0 t.1
 
 -- The lines of an answer of a command. No heading that is read tells a command whose answers can't be checked.
 abbrev pub answer_with : Command → ℕ → Reading → Result (AnswerRead × Reading) ReadError
@@ -257,4 +375,4 @@ unfoldable pub certificate : List ℕ → Result CertificateData ReadError
 certificate bytes =
     cond (ltb most_answer_bytes (length bytes)) (Err (errors.InputTooLong most_answer_bytes))
     (answer_after (start bytes) >>= λ read.
-    Ok (record { answer = read.0.answer; lines = read.1.taken; flow_heads = read.0.heads }))
+    Ok (record { answer = read.0.answer; lines = read.1.taken; flow_heads = read.0.heads; tree_heads = read.0.tree_heads }))

@@ -93,7 +93,7 @@ pub fn like_after(
 
 /// The moves of a line. BadLine comes where a field tells none.
 #[tactic(auto, using(wh_lines::proofs::Equations::refused_by))]
-fn moves_of(alloc: Global, rank: Rank, kept: &Kept) -> Result<List<Move>, ReadError>
+pub fn moves_of(alloc: Global, rank: Rank, kept: &Kept) -> Result<List<Move>, ReadError>
     ensures { Gives (λ ms. ms) result (refused_as spec.in_answer (moves_at rank kept.now.number kept.now.fields)) }
 {
     match read_moves(alloc, rank, kept.number() as u64, kept.fields()) {

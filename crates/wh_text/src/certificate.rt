@@ -1,7 +1,7 @@
 //! Reading of answers that can be checked.
 ghost use Rattle.std.specs.Prelude.{◌≡◌, ◌<◌, ◌≤◌, length, IfOk, IfErr, Ok, Err};
 ghost use Rattle.wh_lines.specs.declared.read_error.ReadError.TheVariants.{InputTooLong};
-ghost use Rattle.wh_lines.specs.Readings.{Gives, Refuses, refused_as};
+ghost use Rattle.wh_lines.specs.Readings.{◌>>=◌ as ◌then◌, Gives, Refuses, refused_as};
 ghost use Rattle.wh_lines.specs.LineReadings.{Reads};
 ghost use Rattle.wh_data.specs.AnswerData.{certificate_of};
 ghost use Rattle.wh_text.specs.RankLines as ranks;
@@ -11,20 +11,26 @@ ghost use Rattle.wh_data.specs.Limits.{most_answer_bytes};
 ghost use Rattle.wh_data.specs.Numberings.{IsNumbered};
 
 use crate::answer_line::{bad_line, in_answer, like_after, tuple_after};
+use crate::parts_reading::{ReadParts, parts_after};
 use crate::rank_line::read_rank;
-use crate::side_reading::{ReadSide, side_after};
+use crate::side_reading::{ReadSide, ended_after, level_after, side_after};
+use crate::trace_reading::stab_trace_after;
 use crate::verdict_reading::{ReadVerdict, verdict_after};
 use std::alloc::Global;
 use std::marker::Model;
-use wh_data::{Answer, Command, MOST_ANSWER_BYTES, Numbered, answer_version, is_unchecked_name};
+use wh_data::{
+    Answer, Command, MOST_ANSWER_BYTES, Numbered, StabVerdict, answer_version, is_unchecked_name,
+};
 use wh_lines::{Field, ReadError, Reader};
 use wh_words::{Letter, List, Rank, Tuple};
 
-/// An answer, and the letters and values that its `flow` lines name.
+/// An answer, the letters and values that its `flow` lines name, and the numbers of the vertices that its `tree` lines
+/// name.
 #[derive(Drop)]
 struct ReadAnswer {
     answer: Answer,
     heads: Vec<(Letter, u32)>,
+    tree_heads: Vec<u32>,
 }
 
 impl Model for ReadAnswer {
@@ -33,7 +39,7 @@ impl Model for ReadAnswer {
 
     ghost Value = { spec.AnswerRead };
 
-    ghost view = { λ a. record { answer = answer_of a.answer; heads = a.heads.items } };
+    ghost view = { λ a. record { answer = answer_of a.answer; heads = a.heads.items; tree_heads = a.tree_heads.items } };
 }
 
 /// The command of the name in a heading. NoCertificate comes where answers of the command aren't checked, BadLine where
@@ -89,6 +95,7 @@ fn reduced_after(alloc: Global, rank: Rank, reader: &mut Reader) -> Result<ReadA
         Ok(ReadSide { side, heads }) => Ok(ReadAnswer {
             answer: Answer::Reduce { tuple, side },
             heads,
+            tree_heads: Vec::new(alloc),
         }),
         Err(error) => {
             drop(tuple);
@@ -115,6 +122,7 @@ fn with_verdict(
                 verdict,
             },
             heads,
+            tree_heads: Vec::new(alloc),
         }),
         Err(error) => {
             drop(first);
@@ -149,6 +157,88 @@ fn decided_after(alloc: Global, rank: Rank, reader: &mut Reader) -> Result<ReadA
 {
     let first = tuple_after(alloc, b"first", rank, reader)?;
     with_second(alloc, rank, first, reader)
+}
+
+/// What the next lines tell, which present the stabiliser of an end: its level, the tuples of which have so many words, and
+/// what is found by it.
+fn presented_after(
+    alloc: Global,
+    rank: Rank,
+    count: usize,
+    end: &Tuple,
+    reader: &mut Reader,
+) -> Result<ReadParts, ReadError>
+    ensures { Reads (λ p. p) result reader.new (spec.level_after rank count reader.old then λ vs. spec.parts_after rank end.now.plain vs.0 vs.1) }
+{
+    let vertices = level_after(alloc, rank, count, reader)?;
+    parts_after(alloc, rank, end, vertices, reader)
+}
+
+/// The answer of a tuple and its side, with the level and what presents the stabiliser of the next lines.
+fn with_parts(
+    alloc: Global,
+    rank: Rank,
+    tuple: Tuple,
+    side: ReadSide,
+    reader: &mut Reader,
+) -> Result<ReadAnswer, ReadError>
+    ensures { Reads (λ a. a) result reader.new (spec.with_parts rank tuple.plain side reader.old) }
+{
+    match presented_after(alloc, rank, tuple.count(), &side.side.end, reader) {
+        Ok(ReadParts { parts, heads }) => Ok(ReadAnswer {
+            answer: Answer::Stabiliser {
+                tuple,
+                verdict: StabVerdict::Done(side.side, parts),
+            },
+            heads: side.heads,
+            tree_heads: heads,
+        }),
+        Err(error) => {
+            drop(tuple);
+            drop(side);
+            Err(error)
+        }
+    }
+}
+
+/// The side of the next lines, with which a stabiliser begins that isn't undecided.
+fn stab_side_after(
+    alloc: Global,
+    rank: Rank,
+    count: usize,
+    reader: &mut Reader,
+) -> Result<ReadSide, ReadError>
+    ensures { Reads (λ s. s) result reader.new (spec.stab_trace_after rank reader.old then λ ms. spec.ended_after rank count ms.0 ms.1) }
+{
+    let trace = stab_trace_after(alloc, rank, reader)?;
+    ended_after(alloc, rank, count, trace, reader)
+}
+
+/// The answer of a tuple, with the side and all that follows it of the next lines.
+fn with_stab(
+    alloc: Global,
+    rank: Rank,
+    tuple: Tuple,
+    reader: &mut Reader,
+) -> Result<ReadAnswer, ReadError>
+    ensures { Reads (λ a. a) result reader.new (spec.with_stab rank tuple.plain reader.old) }
+{
+    match stab_side_after(alloc, rank, tuple.count(), reader) {
+        Ok(side) => with_parts(alloc, rank, tuple, side, reader),
+        Err(error) => {
+            drop(tuple);
+            Err(error)
+        }
+    }
+}
+
+/// The answer of `stabiliser` that the next lines tell. No heading of one is read yet, as `check` doesn't judge it.
+#[tactic(auto, unfolding(crate::specs::Certificates::stabilised_after))]
+fn stabilised_after(alloc: Global, rank: Rank, reader: &mut Reader) -> Result<ReadAnswer, ReadError>
+    ensures { Reads (λ a. a) result reader.new (spec.stabilised_after rank reader.old) }
+{
+    let tuple = tuple_after(alloc, b"tuple", rank, reader)?;
+    with_stab(alloc, rank, tuple, reader)
 }
 
 /// The answer of a command that the next lines tell. Its answers can be checked, or else its heading isn't read.
@@ -224,10 +314,15 @@ pub fn read_answer(alloc: Global, bytes: &[u8]) -> Result<Numbered, ReadError>
         });
     }
     let mut reader = Reader::new(alloc, bytes);
-    let ReadAnswer { answer, heads } = answer_after(alloc, &mut reader)?;
+    let ReadAnswer {
+        answer,
+        heads,
+        tree_heads,
+    } = answer_after(alloc, &mut reader)?;
     Ok(Numbered {
         answer,
         lines: List::of(reader.into_taken()),
         flow_heads: List::of(heads),
+        tree_heads: List::of(tree_heads),
     })
 }

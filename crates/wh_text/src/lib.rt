@@ -4,10 +4,12 @@
 mod answer_line;
 mod certificate;
 pub mod laws;
+mod parts_reading;
 mod problem_reading;
 mod rank_line;
 mod refusal;
 mod side_reading;
+mod trace_reading;
 mod verdict_reading;
 
 pub use certificate::read_answer;

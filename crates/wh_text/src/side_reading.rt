@@ -92,6 +92,20 @@ fn with_flows(
     }
 }
 
+/// The side of a trace, with the end and the flows of the next lines.
+pub fn ended_after(
+    alloc: Global,
+    rank: Rank,
+    count: usize,
+    trace: List<Move>,
+    reader: &mut Reader,
+) -> Result<ReadSide, ReadError>
+    ensures { Reads (λ s. s) result reader.new (spec.ended_after rank count trace reader.old) }
+{
+    let end = like_after(alloc, b"end", rank, count, reader)?;
+    with_flows(alloc, rank, trace, end, reader)
+}
+
 /// The side that the next lines tell: `trace`, `end`, and a `flow` line for each generator.
 #[tactic(auto, unfolding(crate::specs::Certificates::side_after))]
 pub fn side_after(
@@ -103,8 +117,7 @@ pub fn side_after(
     ensures { Reads (λ s. s) result reader.new (spec.side_after rank count reader.old) }
 {
     let trace = moves_after(alloc, b"trace", rank, reader)?;
-    let end = like_after(alloc, b"end", rank, count, reader)?;
-    with_flows(alloc, rank, trace, end, reader)
+    ended_after(alloc, rank, count, trace, reader)
 }
 
 /// The level of a `level` line, with its tuples of the next lines: as many `at` lines as it tells.

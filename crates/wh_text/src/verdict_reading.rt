@@ -40,7 +40,7 @@ enum Word {
 }
 
 /// Whether two fields tell a bound: a word and a number.
-fn is_bound(word: &Field, number: &Field) -> bool
+pub fn is_bound(word: &Field, number: &Field) -> bool
     ensures { result ≡ spec.is_bound word.now.bytes number.now.bytes }
 {
     (word.is(b"length") || word.is(b"level")) && canonical_number(number.bytes()).is_some()

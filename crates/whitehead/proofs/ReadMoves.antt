@@ -40,11 +40,11 @@ verdict_moves n count rows (no_level a b ts) heads low told =
     (side_moves n count told.3.first a told.3.first_heads low told.3.one, side_moves n count told.3.second b told.3.second_heads low told.3.two)
 verdict_moves n count rows (undecided bound) heads low told = absurd told
 
-answer_moves : (rows : List Row) (a : AnswerData) (heads : List (ℕ × ℕ)) → IsAnswerText rows a heads → HasMoves a
-answer_moves rows (reduce t s) heads told = side_moves t.rank (length t.words) told.1 s heads told.4 told.6
-answer_moves rows (decide s t v) heads told = verdict_moves s.rank (length s.words) told.2 v heads (omega (arith, told.5)) told.8
-answer_moves rows (straighten t given ms end) heads told = absurd told
-answer_moves rows (stabiliser t v) heads told = absurd told
+answer_moves : (rows : List Row) (a : AnswerData) (heads : List (ℕ × ℕ)) (tree_heads : List ℕ) → IsAnswerText rows a heads tree_heads → HasMoves a
+answer_moves rows (reduce t s) heads tree_heads told = side_moves t.rank (length t.words) told.1 s heads told.4 told.6
+answer_moves rows (decide s t v) heads tree_heads told = verdict_moves s.rank (length s.words) told.2 v heads (omega (arith, told.5)) told.8
+answer_moves rows (straighten t given ms end) heads tree_heads told = absurd told
+answer_moves rows (stabiliser t v) heads tree_heads told = absurd told
 
 pub certificate_moves : (bytes : List ℕ) (c : CertificateData) → certificate bytes ≡ Ok c → HasMoves c.answer
-certificate_moves bytes c e = let text = ((reads_certificates bytes c).0 e).1 in answer_moves text.rows c.answer c.flow_heads text.told
+certificate_moves bytes c e = let text = ((reads_certificates bytes c).0 e).1 in answer_moves text.rows c.answer c.flow_heads c.tree_heads text.told

@@ -105,21 +105,21 @@ IsAnswerTold r = HasTuples r.0.answer
 reduced_told : (n : ℕ) (p : Reading) (r : AnswerRead × Reading) → n ≤ 26 → reduced_after n p ≡ Ok r → IsAnswerTold r
 unfolding reduced_after
 reduced_told n p r h e =
-    let a = bind_ok (tuple_after (codes "tuple") n p) (λ t. side_after n (length t.0.words) t.1 >>= λ s. Ok (record { answer = reduce t.0 s.0.side; heads = s.0.heads }, s.1)) r e in
-    let b = bind_ok (side_after n (length a.0.0.words) a.0.1) (λ s. Ok (record { answer = reduce a.0.0 s.0.side; heads = s.0.heads }, s.1)) r a.2 in
+    let a = bind_ok (tuple_after (codes "tuple") n p) (λ t. side_after n (length t.0.words) t.1 >>= λ s. Ok (record { answer = reduce t.0 s.0.side; heads = s.0.heads; tree_heads = [] }, s.1)) r e in
+    let b = bind_ok (side_after n (length a.0.0.words) a.0.1) (λ s. Ok (record { answer = reduce a.0.0 s.0.side; heads = s.0.heads; tree_heads = [] }, s.1)) r a.2 in
     let tuple = after_told (codes "tuple") n p a.0 h a.1 in
-    ok_same IsAnswerTold (record { answer = reduce a.0.0 b.0.0.side; heads = b.0.0.heads }, b.0.1) r b.2
+    ok_same IsAnswerTold (record { answer = reduce a.0.0 b.0.0.side; heads = b.0.0.heads; tree_heads = [] }, b.0.1) r b.2
     (tuple.0, omega (arith, tuple.1, h), side_told n (length a.0.0.words) a.0.1 b.0 h b.1)
 
 decided_told : (n : ℕ) (p : Reading) (r : AnswerRead × Reading) → n ≤ 26 → decided_after n p ≡ Ok r → IsAnswerTold r
 unfolding decided_after
 decided_told n p r h e =
-    let a = bind_ok (tuple_after (codes "first") n p) (λ s. like_after (codes "second") n (length s.0.words) s.1 >>= λ t. verdict_after n (length s.0.words) t.1 >>= λ v. Ok (record { answer = decide s.0 t.0 v.0.verdict; heads = v.0.heads }, v.1)) r e in
-    let b = bind_ok (like_after (codes "second") n (length a.0.0.words) a.0.1) (λ t. verdict_after n (length a.0.0.words) t.1 >>= λ v. Ok (record { answer = decide a.0.0 t.0 v.0.verdict; heads = v.0.heads }, v.1)) r a.2 in
-    let c = bind_ok (verdict_after n (length a.0.0.words) b.0.1) (λ v. Ok (record { answer = decide a.0.0 b.0.0 v.0.verdict; heads = v.0.heads }, v.1)) r b.2 in
+    let a = bind_ok (tuple_after (codes "first") n p) (λ s. like_after (codes "second") n (length s.0.words) s.1 >>= λ t. verdict_after n (length s.0.words) t.1 >>= λ v. Ok (record { answer = decide s.0 t.0 v.0.verdict; heads = v.0.heads; tree_heads = [] }, v.1)) r e in
+    let b = bind_ok (like_after (codes "second") n (length a.0.0.words) a.0.1) (λ t. verdict_after n (length a.0.0.words) t.1 >>= λ v. Ok (record { answer = decide a.0.0 t.0 v.0.verdict; heads = v.0.heads; tree_heads = [] }, v.1)) r a.2 in
+    let c = bind_ok (verdict_after n (length a.0.0.words) b.0.1) (λ v. Ok (record { answer = decide a.0.0 b.0.0 v.0.verdict; heads = v.0.heads; tree_heads = [] }, v.1)) r b.2 in
     let first = after_told (codes "first") n p a.0 h a.1 in
     let second = like_told (codes "second") n (length a.0.0.words) a.0.1 b.0 h b.1 in
-    ok_same IsAnswerTold (record { answer = decide a.0.0 b.0.0 c.0.0.verdict; heads = c.0.0.heads }, c.0.1) r c.2
+    ok_same IsAnswerTold (record { answer = decide a.0.0 b.0.0 c.0.0.verdict; heads = c.0.0.heads; tree_heads = [] }, c.0.1) r c.2
     (first.0, second.0, omega (arith, first.1, h), verdict_told n (length a.0.0.words) b.0.1 c.0 h c.1)
 
 answer_with_told : (command : Command) (n : ℕ) (p : Reading) (r : AnswerRead × Reading) → n ≤ greatest_rank command → answer_with command n p ≡ Ok r → IsAnswerTold r
@@ -149,7 +149,7 @@ answer_told p read e =
 pub certificate_tuples : (bytes : List ℕ) (c : CertificateData) → certificate bytes ≡ Ok c → HasTuples c.answer
 unfolding certificate
 certificate_tuples bytes c e =
-    let made : AnswerRead × Reading → CertificateData = λ read. record { answer = read.0.answer; lines = read.1.taken; flow_heads = read.0.heads } in
+    let made : AnswerRead × Reading → CertificateData = λ read. record { answer = read.0.answer; lines = read.1.taken; flow_heads = read.0.heads; tree_heads = read.0.tree_heads } in
     let a = unless_ok (ltb most_answer_bytes (length bytes)) (errors.InputTooLong most_answer_bytes) (answer_after (start bytes) >>= λ read. Ok (made read)) c e in
     let b = bind_ok (answer_after (start bytes)) (λ read. Ok (made read)) c a.1 in
     ok_same (λ (x : CertificateData). HasTuples x.answer) (made b.0) c b.2 (answer_told (start bytes) b.0 b.1)
