@@ -1,5 +1,5 @@
 -- What a valid certificate shows, whoever wrote it.
-use Rattle.std.proofs.Common.{◌≡◌, ◌≢◌, ℕ, zero, suc, ◌+◌, ◌*◌, ◌<◌, ◌≤◌, List, [], ◌∷◌, ◌++◌, length, get_or, inl, inr, Contains, refl, sym, subst, arith}
+use Rattle.std.proofs.Common.{◌≡◌, ◌≢◌, ℕ, Some, ◌+◌, ◌*◌, ◌<◌, ◌≤◌, List, [], ◌∷◌, ◌++◌, length, get_or, inl, inr, Contains, refl, sym, subst, arith}
 use Rattle.std.specs.List.{All}
 use Rattle.std.proofs.lemmas.Bool.{cases_lt}
 use Rattle.std.proofs.lemmas.List.{length-append, get_or_append_left, get_or-append-add}
@@ -19,34 +19,12 @@ use Rattle.wh_data.specs.AnswerData.AnswerData.{reduce, decide, straighten, stab
 use Rattle.wh_data.specs.Numberings.{side_lines}
 use Rattle.wh_cert.specs.Demands.{Demand, Placed, fit_on_the_way, moves_carry, lengths_differ, lengths_agree, rises, has_height, is_absent, is_closed, has_root, has_flow, trace_ends, IsGeneratorFlow, ImagesAreIn, IsMet, tuple_at, asked_below, trace_asked, flow_asked, flows_asked, side_asked, sides_asked, at_asked, level_asked}
 use Rattle.wh_cert.specs.Checks.{AreMet}
+use Rattle.wh_cert.proofs.MetParts.{first_part, rest_part, first_met, rest_met, met_in}
+use Rattle.wh_cert.proofs.MetLevels.{root_in, tuple_met, stays}
 use Rattle.wh_peak.specs.Equivalence.{AreMovesOfRank}
 use Rattle.wh_peak.specs.Stabilisers.{LeadsToFlat}
 use Rattle.wh_answer.specs.Laws.{ValidShows}
 use Rattle.wh_answer.proofs.TrueVerdicts.{shortest_of, carried_by, none_off_level, none_of_length}
-
--- ---- parts of what is asked
-first_part : (ds es : List Placed) → AreMet (ds ++ es) → AreMet ds
-first_part ds es met k d l = subst (λ (e : Placed). IsMet e.1) (get_or_append_left ds es d k l) (met k d (omega (arith, length-append ds es, l)))
-
-rest_part : (ds es : List Placed) → AreMet (ds ++ es) → AreMet es
-rest_part ds es met k d l = subst (λ (e : Placed). IsMet e.1) (get_or-append-add ds es k d) (met (length ds + k) d (omega (arith, length-append ds es, l)))
-
-first_met : (place : ℕ) (d : Demand) (ds : List Placed) → AreMet ((place, d) ∷ ds) → IsMet d
-first_met place d ds met = All-head (λ (e : Placed). IsMet e.1) (place, d) ds met
-
-rest_met : (place : ℕ) (d : Demand) (ds : List Placed) → AreMet ((place, d) ∷ ds) → AreMet ds
-rest_met place d ds met = All-tail (λ (e : Placed). IsMet e.1) (place, d) ds met
-
--- What is asked in one turn.
-met_in : (asked : ℕ → List Placed) (n k : ℕ) → k < n → AreMet (asked_below asked n) → AreMet (asked k)
-unfolding asked_below
-met_in asked zero k l met = absurd (omega (arith, l))
-met_in asked (suc n) k l met = elim (cases_lt k n) [
-  | inl below ↦ met_in asked n k below (first_part (asked_below asked n) (asked n) met)
-  | inr above ↦
-      let last : n ≡ k = omega (arith, above, l) in
-      subst (λ (j : ℕ). AreMet (asked j)) last (rest_part (asked_below asked n) (asked n) met)
-]
 
 -- ---- sides
 trace_leads : (place : ℕ) (t : TupleData) (s : SideData) → AreMet (trace_asked place t s) → act_all t s.trace ≡ s.end
@@ -83,34 +61,19 @@ sides_shown place n heads s t a b lengths moves other_moves is other low other_l
     )
 
 -- ---- levels
-module _ (place : ℕ) (root second : TupleData) (ts : List TupleData) (met : AreMet (level_asked place root second ts)) where
-  root_in : Contains ts root
-  root_in = first_met place (has_root root ts) (asked_below (at_asked (place + 1) root second ts) (length ts)) met
-
-  -- The last two demands on a tuple of the level.
-  last_met : (k : ℕ) → k < length ts → (tuple_at ts k ≢ second) × ImagesAreIn ts (tuple_at ts k)
-  last_met k l =
+module _ (place : ℕ) (root second : TupleData) (ts : List TupleData) (met : AreMet (level_asked place root (Some second) ts)) where
+  absent_at : (k : ℕ) → k < length ts → tuple_at ts k ≢ second
+  absent_at k l =
       let at : ℕ = place + 1 + k in
       let t : TupleData = tuple_at ts k in
-      let all : AreMet (at_asked (place + 1) root second ts k) =
-      met_in (at_asked (place + 1) root second ts) (length ts) k l (rest_met place (has_root root ts) (asked_below (at_asked (place + 1) root second ts) (length ts)) met) in
-      let two : AreMet ((at, is_absent second t) ∷ (at, is_closed ts t) ∷ []) =
-      rest_part ((at, rises ts k) ∷ (at, has_height root t) ∷ []) ((at, is_absent second t) ∷ (at, is_closed ts t) ∷ []) all in
-      (first_met at (is_absent second t) ((at, is_closed ts t) ∷ []) two, first_met at (is_closed ts t) [] (rest_met at (is_absent second t) ((at, is_closed ts t) ∷ []) two))
-
-  all_closed : All (ImagesAreIn ts) ts
-  all_closed = All-from_get_or (ImagesAreIn ts) ts (record { rank = 0; words = [] }) (λ k l. (last_met k l).1)
+      let last : List Placed = (at, is_absent second t) ∷ (at, is_closed ts t) ∷ [] in
+      first_met at (is_absent second t) ((at, is_closed ts t) ∷ []) (rest_met at (has_height root t) last (rest_met at (rises ts k) ((at, has_height root t) ∷ last) (tuple_met place root (Some second) ts met k l)))
 
   all_absent : All (λ t. t ≢ second) ts
-  all_absent = All-from_get_or (λ t. t ≢ second) ts (record { rank = 0; words = [] }) (λ k l. (last_met k l).0)
-
-  -- Level moves lead from a tuple of the list to tuples of the list alone.
-  stays : {t u : TupleData} {ms : List Move} → Contains ts t → Reaches t ms u → Contains ts u
-  stays there here = there
-  stays {t} there (step {m = m} l r) = stays (All-contains (ImagesAreIn ts) ts t all_closed there m l) r
+  all_absent = All-from_get_or (λ t. t ≢ second) ts (record { rank = 0; words = [] }) absent_at
 
   off_level : ¬ (InLevel root second)
-  off_level walk = All-contains (λ t. t ≢ second) ts second all_absent (stays root_in walk.1) refl
+  off_level walk = All-contains (λ t. t ≢ second) ts second all_absent (stays place root (Some second) ts met (root_in place root (Some second) ts met) walk.1) refl
 
 -- ---- answers
 -- Moves of a rank are moves of an equal one.
@@ -118,24 +81,24 @@ of_other_rank : (n m : ℕ) (ms : List Move) → m ≡ n → AreMovesOfRank n ms
 of_other_rank n m ms same are = subst (λ (k : ℕ). AreMovesOfRank k ms) (sym same) are
 
 pub valid_shows : ValidShows
-valid_shows heads (reduce t s) one are moves met =
+valid_shows heads tree_heads (reduce t s) one are moves met =
     let leads = side_shown 3 heads t s moves are.2 (omega (arith, one.end, are.1)) met in
     (leads, shortest_of t s.end s.trace are.0 are.1 leads)
-valid_shows heads (decide s t (yes ms)) one are moves met =
+valid_shows heads tree_heads (decide s t (yes ms)) one are moves met =
     carried_by s t ms are.0 moves (first_met 5 (moves_carry s ms t) [] (rest_met 5 (fit_on_the_way s ms) ((5, moves_carry s ms t) ∷ []) met))
-valid_shows heads (decide s t (no_length a b)) one are moves met =
+valid_shows heads tree_heads (decide s t (no_length a b)) one are moves met =
     let sides = sides_shown 5 s.rank heads s t a b lengths_differ moves.0 (of_other_rank s.rank t.rank b.trace one.0 moves.1)
     are.3.0 are.3.1 (omega (arith, one.1.0.end, are.2)) (omega (arith, one.1.1.end, are.2)) met in
     (sides.0, sides.1, sides.2, none_of_length s t a.end b.end a.trace b.trace are.0 are.1 (sym one.0) are.2 sides.0 sides.1 sides.2)
-valid_shows heads (decide s t (no_level a b ts)) one are moves met =
+valid_shows heads tree_heads (decide s t (no_level a b ts)) one are moves met =
     let at : ℕ = 5 + 2 * side_lines s.rank in
     let sides : List Placed = sides_asked 5 s.rank heads s t a b lengths_agree in
-    let level : List Placed = level_asked at a.end b.end ts in
+    let level : List Placed = level_asked at a.end (Some b.end) ts in
     let shown : LeadsToFlat s a.trace a.end × LeadsToFlat t b.trace b.end × (tuple_length a.end ≡ tuple_length b.end) =
     sides_shown 5 s.rank heads s t a b lengths_agree moves.0 (of_other_rank s.rank t.rank b.trace one.0 moves.1)
     are.3.0 are.3.1 (omega (arith, one.1.0.end, are.2)) (omega (arith, one.1.1.end, are.2)) (first_part sides level met) in
     let off = off_level at a.end b.end ts (rest_part sides level met) in
     (shown.0, shown.1, shown.2, off, none_off_level s t a.end b.end a.trace b.trace are.0 are.1 (sym one.0) are.2 shown.0 shown.1 off)
-valid_shows heads (decide s t (undecided bound)) one are moves met = tt
-valid_shows heads (straighten t given ms end) one are moves met = tt
-valid_shows heads (stabiliser t v) one are moves met = tt
+valid_shows heads tree_heads (decide s t (undecided bound)) one are moves met = tt
+valid_shows heads tree_heads (straighten t given ms end) one are moves met = tt
+valid_shows heads tree_heads (stabiliser t v) one are moves met = tt

@@ -1,5 +1,5 @@
 -- Every answer that isn't undecided is a valid certificate.
-use Rattle.std.proofs.Common.{◌≡◌, ℕ, ◌+◌, ◌*◌, ◌≤◌, List, [], ◌∷◌, ◌++◌, sym, subst, arith}
+use Rattle.std.proofs.Common.{◌≡◌, ℕ, ◌+◌, ◌*◌, ◌≤◌, List, [], ◌∷◌, ◌++◌, sym, subst, arith, Some}
 use Rattle.wh_words.specs.Tuples.{TupleData, IsTuple}
 use Rattle.wh_words.specs.Moves.{Move}
 use Rattle.wh_words.specs.Action.{act_all}
@@ -36,8 +36,8 @@ verdict_valid limit s t v is other low other_low (too_many apart short more) car
 verdict_valid limit s t v is other low other_low (joined {ms = ms} {ns = ns} {walk = walk} {u = u} {v = w} apart short level few first) carried decided =
     yes_valid s t _ (way_by_walk s t is other low other_low u w ms ns walk apart.first apart.second first.leads) carried
 verdict_valid limit s t v is other low other_low (off_level {first = a} {second = b} {level = ts} left right apart short level few off) carried decided =
-    both_met (sides_asked 5 s.rank (heads_from 0 a.flows ++ heads_from 0 b.flows) s t (side_of a) (side_of b) lengths_agree) (level_asked (5 + 2 * side_lines s.rank) a.end.plain b.end.plain (plains ts))
-    (sides_met 5 s t a b lengths_agree is other low other_low left right apart.level) (level_met a.end.plain b.end.plain (plains ts) level off (5 + 2 * side_lines s.rank))
+    both_met (sides_asked 5 s.rank (heads_from 0 a.flows ++ heads_from 0 b.flows) s t (side_of a) (side_of b) lengths_agree) (level_asked (5 + 2 * side_lines s.rank) a.end.plain (Some b.end.plain) (plains ts))
+    (sides_met 5 s t a b lengths_agree is other low other_low left right apart.level) (level_met a.end.plain (Some b.end.plain) (plains ts) level off (5 + 2 * side_lines s.rank))
 
 pub answers_valid : (limit : ℕ) (p : ProblemData) (a : Answer) → IsProblem p → Answers limit p a → IsDecided (answer_of a) → IsValid (answer_of a)
 answers_valid limit (to_reduce t) (answers.Reduce tuple side) is own decided =

@@ -15,7 +15,7 @@ use Rattle.wh_data.specs.AnswerData.VerdictData.{yes, no_length, no_level, undec
 use Rattle.wh_data.specs.AnswerData.StabVerdictData.{done, stopped}
 use Rattle.wh_data.specs.AnswerData.AnswerData.{reduce, decide, straighten, stabiliser}
 use Rattle.wh_data.specs.Limits.{most_answer_bytes}
-use Rattle.wh_data.specs.AnswerParts.{IsCertificate, heads_of}
+use Rattle.wh_data.specs.AnswerParts.{IsCertificate, heads_of, tree_heads_of}
 use Rattle.wh_cert.specs.Demands.{asked}
 use Rattle.wh_cert.specs.Checks.{AreMet}
 
@@ -34,7 +34,7 @@ pub record IsReadable (a : AnswerData) : Type 0 where
 
 -- All that is asked of the lines of its text is so.
 abbrev pub IsValid : AnswerData → Type 0
-IsValid a = AreMet (asked (heads_of a) a)
+IsValid a = AreMet (asked (heads_of a) (tree_heads_of a) a)
 
 -- ---- what a certificate shows, whoever wrote it
 -- The ends of the sides of a verdict are tuples.

@@ -37,6 +37,6 @@ AnswerIsUnique = (limit : ℕ) (p : ProblemData) (a b : Answer) → IsProblem p 
 abbrev pub AnswersAreReadable : Type 0
 AnswersAreReadable = (limit : ℕ) (p : ProblemData) (a : Answer) → limit ≤ most_level_tuples → IsProblem p → Answers limit p a → IsDecided (answer_of a) → IsReadable (answer_of a)
 
--- A certificate of which all that is asked is so, whoever wrote it, shows this, whatever letters and values its `flow` lines tell.
+-- A certificate of which all that is asked is so, whoever wrote it, shows this, whatever letters and values its `flow` lines tell, and whatever vertices its `tree` lines name.
 abbrev pub ValidShows : Type 0
-ValidShows = (heads : List (ℕ × ℕ)) (a : AnswerData) → IsAnswerOfOneRank a → HasTuples a → HasMoves a → AreMet (asked heads a) → Shows a
+ValidShows = (heads : List (ℕ × ℕ)) (tree_heads : List ℕ) (a : AnswerData) → IsAnswerOfOneRank a → HasTuples a → HasMoves a → AreMet (asked heads tree_heads a) → Shows a

@@ -10,3 +10,10 @@ pub mod Carried
 pub mod Rising
 pub mod Numbering
 pub mod OneVerdict
+pub mod SecondEnds
+pub mod FollowedWays
+pub mod FirstOffTree
+pub mod JudgedGenerators
+pub mod MetParts
+pub mod MetLevels
+pub mod Spanning

@@ -31,8 +31,8 @@ met_or_broken ds place rule met b = b.unmet (none_broken b.before (place, b.brok
 
 pub finds_one : FindsOne
 finds_one c Valid Valid met also = refl
-finds_one c Valid (Invalid line rule) met also = absurd (met_or_broken (asked c.flow_heads c.answer) also.place rule met also.first)
-finds_one c (Invalid line rule) Valid first met = absurd (met_or_broken (asked c.flow_heads c.answer) first.place rule met first.first)
+finds_one c Valid (Invalid line rule) met also = absurd (met_or_broken (asked c.flow_heads c.tree_heads c.answer) also.place rule met also.first)
+finds_one c (Invalid line rule) Valid first met = absurd (met_or_broken (asked c.flow_heads c.tree_heads c.answer) first.place rule met first.first)
 finds_one c (Invalid line rule) (Invalid other another) a b =
     let same = one_broken a.first.before b.first.before (a.place, a.first.broken) (b.place, b.first.broken) a.first.after b.first.after a.first.met b.first.met a.first.unmet b.first.unmet (sym a.first.parts ∙ b.first.parts) in
     ap₂ (λ l r. Invalid l r) (a.number ∙ ap (λ (p : Placed). get_or c.lines p.0 0) same ∙ sym b.number) (a.first.asks ∙ ap (λ (p : Placed). rule_of p.1) same ∙ sym b.first.asks)

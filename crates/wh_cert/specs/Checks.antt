@@ -24,10 +24,10 @@ pub record IsFirstBroken (ds : List Placed) (place : ℕ) (rule : Rule) : Type 0
 -- The first demand that isn't met is one on the line of a number, by a rule.
 pub record IsInvalidAt (c : CertificateData) (line : ℕ) (rule : Rule) : Type 0 where
   pub place : ℕ
-  pub first : IsFirstBroken (asked c.flow_heads c.answer) place rule
+  pub first : IsFirstBroken (asked c.flow_heads c.tree_heads c.answer) place rule
   pub number : line ≡ get_or c.lines place 0
 
 -- A certificate is valid where all that is asked of its lines is so. Else the answer is the first line, and its first rule, of which it isn't so.
 abbrev pub Checks : CertificateData → Checked → Type 0
-Checks c Valid = AreMet (asked c.flow_heads c.answer)
+Checks c Valid = AreMet (asked c.flow_heads c.tree_heads c.answer)
 Checks c (Invalid line rule) = IsInvalidAt c line rule

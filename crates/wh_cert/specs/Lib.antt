@@ -4,4 +4,6 @@ pub mod Checks
 pub mod Judged
 pub mod Listings
 pub mod Orbits
+pub mod VertexWays
+pub mod OffTree
 pub mod Laws

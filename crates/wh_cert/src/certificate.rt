@@ -1,13 +1,15 @@
 //! Judging a certificate.
-ghost use Rattle.std.specs.Prelude.{◌≡◌, ◌↔◌, ◌+◌, ◌*◌, ◌<◌, ◌≤◌, [], ◌∷◌, ◌++◌, length, get_or, IsTrue, IfOk};
+ghost use Rattle.std.specs.Prelude.{◌≡◌, ◌↔◌, ◌+◌, ◌*◌, ◌<◌, ◌≤◌, [], ◌∷◌, ◌++◌, length, get_or, Some, IsTrue, IfOk};
 ghost use Rattle.std.specs.List.{All};
 ghost use Rattle.wh_words.specs.Limits.{most_level_rank};
 ghost use Rattle.wh_words.specs.Tuples.{TupleData};
-ghost use Rattle.wh_data.specs.AnswerData.{plains, side_of, verdict_of, answer_of, certificate_of};
-ghost use Rattle.wh_data.specs.Numberings.{IsNumbered, IsSideOfRank, IsVerdictOfRank, IsAnswerOfOneRank, verdict_flows, flow_lines};
+ghost use Rattle.wh_data.specs.AnswerData.{plains, side_of, verdict_of, parts_of, stab_verdict_of, answer_of, certificate_of};
+ghost use Rattle.wh_data.specs.AnswerData.StabVerdictData.{done};
+ghost use Rattle.wh_data.specs.AnswerData.AnswerData.{stabiliser};
+ghost use Rattle.wh_data.specs.Numberings.{IsNumbered, IsSideOfRank, IsVerdictOfRank, IsStabOfRank, IsAnswerOfOneRank, verdict_flows, stab_flows, flow_lines, answer_tree_lines};
 ghost use Rattle.wh_data.specs.Numberings as spec;
 ghost use Rattle.wh_cert.specs.declared.checked.Rule.TheVariants as rules;
-ghost use Rattle.wh_cert.specs.Demands.{Demand, rule_of, IsMet, fit_on_the_way, moves_carry, lengths_differ, lengths_agree, level_asked, trace_asked, flows_asked, side_asked, sides_asked, verdict_asked, asked};
+ghost use Rattle.wh_cert.specs.Demands.{Demand, rule_of, IsMet, fit_on_the_way, moves_carry, lengths_differ, lengths_agree, level_asked, trace_asked, flows_asked, side_asked, sides_asked, verdict_asked, stab_asked, asked};
 ghost use Rattle.wh_cert.specs.Checks.{Checks};
 ghost use Rattle.wh_cert.specs.Judged.{Judges};
 
@@ -153,12 +155,12 @@ fn judge_no_level(
     requires b { IsSideOfRank first.now.plain.rank (side_of b.now) }
     requires heads { 2 * first.now.plain.rank ≤ length heads.now }
     requires ranks { All (λ t. t.plain.rank ≤ most_level_rank) tuples.now }
-    ensures { Judges (sides_asked place first.now.plain.rank heads.now first.now.plain second.now.plain (side_of a.now) (side_of b.now) lengths_agree ++ level_asked (place + 2 * spec.side_lines first.now.plain.rank) a.now.end.plain b.now.end.plain (plains tuples.now)) result }
+    ensures { Judges (sides_asked place first.now.plain.rank heads.now first.now.plain second.now.plain (side_of a.now) (side_of b.now) lengths_agree ++ level_asked (place + 2 * spec.side_lines first.now.plain.rank) a.now.end.plain (Some b.now.end.plain) (plains tuples.now)) result }
 {
     let met = a.end.length() == b.end.length();
     judge_sides(alloc, place, heads, first, second, a, b, met)?;
     let after = place + 2 * side_lines(first.rank());
-    judge_level(alloc, after, &a.end, &b.end, tuples)
+    judge_level(alloc, after, &a.end, Some(&b.end), tuples)
 }
 
 /// Judges the lines after the verdict on two tuples, of which the first is at a place.
@@ -187,11 +189,18 @@ fn judge_verdict(
     }
 }
 
-/// Judges the lines of an answer whose `flow` lines name these letters and values.
-fn judge_answer(alloc: Global, heads: &[(Letter, u32)], answer: &Answer) -> Result<(), Stop>
+/// Judges the lines of an answer whose `flow` lines name these letters and values, and whose `tree` lines name vertices by
+/// these numbers.
+fn judge_answer(
+    alloc: Global,
+    heads: &[(Letter, u32)],
+    tree_heads: &[u32],
+    answer: &Answer,
+) -> Result<(), Stop>
     requires answer { IsAnswerOfOneRank (answer_of answer.now) }
     requires heads { length heads.now ≡ flow_lines (answer_of answer.now) }
-    ensures { Judges (asked heads.now (answer_of answer.now)) result }
+    requires tree_heads { length tree_heads.now ≡ answer_tree_lines (answer_of answer.now) }
+    ensures { Judges (asked heads.now tree_heads.now (answer_of answer.now)) result }
 {
     let place = answer.head_lines();
     match answer {
@@ -224,7 +233,8 @@ pub fn check(alloc: Global, numbered: &Numbered) -> Result<Checked, OutOfMemory>
     requires { IsNumbered (certificate_of numbered.now) }
     ensures { IfOk result (Checks (certificate_of numbered.now)) }
 {
-    match judge_answer(alloc, numbered.flow_heads.items(), &numbered.answer) {
+    let heads = numbered.flow_heads.items();
+    match judge_answer(alloc, heads, numbered.tree_heads.items(), &numbered.answer) {
         Ok(()) => Ok(Checked::Valid),
         Err(Stop::Broken { place, rule }) => Ok(Checked::Invalid {
             line: number_at(numbered.lines.items(), place),

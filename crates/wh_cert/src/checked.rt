@@ -15,16 +15,33 @@ pub enum Rule {
     Length,
     /// The line has a flow of its generator, whose value is the generator's degree.
     Flow,
-    /// The end of the first side is in the level.
+    /// The end of the first side, or of the one side, is in the level.
     Root,
     /// The tuples of the level rise.
     Sorted,
-    /// The tuples of the level have the length of the end of the first side.
+    /// The tuples of the level have the length of that end.
     Height,
     /// The end of the second side isn't in the level.
     Absent,
     /// The images of the tuples of the level under level moves are in the level.
     Closed,
+    /// The line names the next vertex but the end. A move that isn't an identity cut leads there from its parent, which is
+    /// a vertex, and parents lead from it to the end.
+    Tree,
+    /// There are as many generators as edges that aren't of the tree.
+    Generators,
+    /// The line tells the next edge that isn't of the tree.
+    Generator,
+    /// The vertex of the relator is one, and no move on its way is an identity cut or leads out of the level.
+    Step,
+    /// The moves of the relator lead back to its vertex.
+    Loop,
+    /// The images of the moves of the relator have at most 65,536 letters on the way.
+    Wide,
+    /// The composite of the moves of the relator is the identity.
+    Identity,
+    /// The numbers of the relator are those of the generators on its way.
+    Numbers,
 }
 
 impl Rule {
@@ -43,6 +60,14 @@ impl Rule {
             Rule::Height => "height",
             Rule::Absent => "absent",
             Rule::Closed => "closed",
+            Rule::Tree => "tree",
+            Rule::Generators => "generators",
+            Rule::Generator => "generator",
+            Rule::Step => "step",
+            Rule::Loop => "loop",
+            Rule::Wide => "wide",
+            Rule::Identity => "identity",
+            Rule::Numbers => "numbers",
         }
     }
 }

@@ -4,11 +4,13 @@
 mod certificate;
 mod checked;
 mod closure;
+mod generators;
 mod images;
 pub mod laws;
 mod levels;
 mod sides;
 mod stop;
+mod ways;
 
 pub use certificate::check;
 pub use checked::{Checked, Rule};

@@ -49,7 +49,7 @@ reply_shown limit bytes text task status is done (answered a r q) = absurd (cc)
 reply_shown limit bytes text task status is done (too_long r long) = absurd (cc)
 reply_shown limit bytes text task status is done (unread r) = absurd (cc)
 reply_shown limit bytes text task status is done (checked {c = c} Valid r met) =
-    record { certificate = c; read = r; shown = valid_shows c.flow_heads c.answer (certificate_numbered bytes c r).answer (certificate_tuples bytes c r) (certificate_moves bytes c r) met }
+    record { certificate = c; read = r; shown = valid_shows c.flow_heads c.tree_heads c.answer (certificate_numbered bytes c r).answer (certificate_tuples bytes c r) (certificate_moves bytes c r) met }
 reply_shown limit bytes text task status is done (checked (Invalid line rule) r q) = absurd (cc)
 
 told_shown : (words : List Text) (bytes text : List ℕ) (status : Status) → AskCheck words → status ≡ Done → Told words bytes status text → IsShown bytes
