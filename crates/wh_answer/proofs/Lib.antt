@@ -14,6 +14,10 @@ pub mod Meaning
 pub mod WalkLengths
 pub mod OwnParts
 pub mod TextLengths
+pub mod LevelTuples
+pub mod LevelSizes
+pub mod ReadableParts
+pub mod PartLengths
 pub mod Readable
 pub mod StabiliserParts
 pub mod TrueStabilisers

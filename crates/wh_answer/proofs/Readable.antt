@@ -3,17 +3,19 @@ use Rattle.std.proofs.Common.{◌≡◌, ℕ, ◌+◌, ◌≤◌, List, [], ◌�
 use Rattle.std.specs.Prelude.{codes}
 use Rattle.std.specs.List.{All}
 use Rattle.std.proofs.lemmas.List.{length-map, length-reverse}
-use Rattle.std.proofs.lemmas.List.Elements.{All-nil, All-append, All-weaker, Contains-get_or}
-use Rattle.wh_words.specs.Tuples.{TupleData, Tuple, tuple_length}
+use Rattle.std.proofs.lemmas.List.Elements.{All-nil, All-append, All-weaker}
+use Rattle.wh_words.specs.Tuples.{TupleData, Tuple, IsTuple}
 use Rattle.wh_words.specs.Moves.{Move, inverse_move}
 use Rattle.wh_words.specs.MoveLists.{inverse_list}
 use Rattle.wh_words.specs.CapacityTraces.{IsCapacityTrace}
-use Rattle.wh_words.specs.Levels.{InLevel, IsLevel}
-use Rattle.wh_words.specs.Levels.Reaches.{here}
-use Rattle.wh_moves.proofs.Walks.{reached_length}
+use Rattle.wh_level.specs.Trees.{LevelData}
+use Rattle.wh_stab.specs.Relators.{relator_count}
+use Rattle.wh_stab.specs.Stabilisers.{HasFewEdges}
 use Rattle.wh_data.specs.declared.answer.Side.{Side}
 use Rattle.wh_data.specs.declared.answer.Verdict.{Verdict}
 use Rattle.wh_data.specs.declared.answer.Verdict.TheVariants.{Yes}
+use Rattle.wh_data.specs.declared.answer.Parts.{Parts}
+use Rattle.wh_data.specs.declared.answer.StabVerdict.{StabVerdict}
 use Rattle.wh_data.specs.declared.answer.Answer.TheVariants as answers
 use Rattle.wh_data.specs.ProblemData.ProblemData.{reduce, decide, straighten, stabiliser}
 use Rattle.wh_lines.specs.Rows.{row_text, rows_text, number_row}
@@ -21,20 +23,29 @@ use Rattle.wh_lines.proofs.PrintedRows.{rows_append}
 use Rattle.wh_fields.specs.TupleFields.{words_row, IsTupleOf}
 use Rattle.wh_data.specs.declared.command.Command.TheVariants as commands
 use Rattle.wh_data.specs.Commands.{heading_row}
-use Rattle.wh_data.specs.AnswerTexts.{side_rows, level_rows, verdict_row, verdict_rows, done_row, head_rows, body_rows, answer_text}
-use Rattle.wh_data.specs.AnswerData.{plains, side_of, verdict_of, answer_of}
+use Rattle.wh_data.specs.AnswerTexts.{side_rows, level_rows, stab_rows, verdict_row, verdict_rows, done_row, head_rows, body_rows, answer_text}
+use Rattle.wh_data.specs.AnswerData.{plains, side_of, verdict_of, parts_of, stab_verdict_of, answer_of}
 use Rattle.wh_data.specs.AnswerData.{AnswerData}
-use Rattle.wh_data.specs.AnswerData.AnswerData.{reduce as reduced, decide as decided}
+use Rattle.wh_data.specs.Limits.{most_answer_bytes}
+use Rattle.wh_data.specs.AnswerData.StabVerdictData.{done}
+use Rattle.wh_data.specs.AnswerData.AnswerData.{reduce as reduced, decide as decided, stabiliser as presented_of}
 use Rattle.wh_fields.specs.MoveFields.{moves_row, IsMoveOf}
 use Rattle.wh_fields.specs.FlowFields.{IsFlowOf}
-use Rattle.wh_data.specs.AnswerParts.{IsVerdictOf, IsSideOf as IsSideOfRank}
+use Rattle.wh_data.specs.AnswerParts.{IsVerdictOf, IsSideOf as IsSideOfRank, ArePartsOf as ArePartsOfRank, IsStabOf}
+use Rattle.wh_data.specs.PresentationTexts.{presentation_rows}
 use Rattle.wh_answer.specs.Sides.{IsSideOf}
 use Rattle.wh_answer.specs.Answers.{Decides}
 use Rattle.wh_answer.specs.Answers.Decides.{other_lengths, one_end, too_long, too_many, joined, off_level}
+use Rattle.wh_answer.specs.StabiliserAnswers.{HasLevel, ArePartsOf}
 use Rattle.wh_answer.specs.Certified.{IsDecided, IsReadable}
 use Rattle.wh_answer.specs.Laws.{IsProblem, AnswersAreReadable}
-use Rattle.wh_answer.proofs.OwnParts.{trace_moves, walk_moves, inverse_moves, trace_end, trace_length, reached_of, flow_of_generator}
+use Rattle.wh_answer.proofs.OwnParts.{trace_moves, walk_moves, inverse_moves, trace_end, trace_length, flow_of_generator}
 use Rattle.wh_answer.proofs.WalkLengths.{first_walk-length}
+use Rattle.wh_answer.proofs.OneSide.{trace_one}
+use Rattle.wh_answer.proofs.LevelSizes.{few_tuples}
+use Rattle.wh_answer.proofs.ReadableParts.{root_of, vertices_are, parents_placed, generators_placed, generators_few, loops_good, relators_few, parts_are}
+use Rattle.wh_answer.proofs.PartLengths.{presentation_rows-length}
+use Rattle.wh_answer.proofs.LevelTuples.{level_tuples, level_some}
 use Rattle.wh_answer.proofs.TextLengths.{IsShort, words_row-length, number_row-length, moves_row-length, side_rows-length, level_rows-length}
 
 -- ---- sides
@@ -55,18 +66,6 @@ module _ (n count : ℕ) (low : n ≤ 26) (t : TupleData) (is : IsTupleOf n coun
 
   side_short : (s : Side) → IsSideOf t s → length (rows_text (side_rows (side_of s))) ≤ 1250000
   side_short s own = side_rows-length n count (side_of s) low (own_side s own) (few_moves s.end.plain s.trace own.trace)
-
--- ---- levels
-module _ (n count : ℕ) (u : TupleData) (is : IsTupleOf n count u) (small : tuple_length u ≤ 256) where
-  level_tuples : (ts : List TupleData) → IsLevel u ts → All (λ t. IsTupleOf n count t × IsShort t) ts
-  level_tuples ts level k d l =
-      let t : TupleData = get_or ts k d in
-      let (ms, r) : InLevel u t = (level.exact t).0 (Contains-get_or ts k d l) in
-      let of : IsTupleOf n count t = reached_of n count u t ms is r in
-      (of, (omega (arith, reached_length r, small), of.tuple.few))
-
-  level_some : (ts : List TupleData) → IsLevel u ts → 1 ≤ length ts
-  level_some ts level = let c = (level.exact u).1 ([], here) in omega (arith, c.1)
 
 -- ---- verdicts
 -- The verdict is one in rank n on tuples with so many words, and its text leaves room for the other lines of the answer.
@@ -140,6 +139,9 @@ module _ (n count : ℕ) (low : n ≤ 26) (s t : TupleData) (is : IsTupleOf n co
           length-append (rows_text (side_rows (side_of a) ++ side_rows (side_of b))) (rows_text (level_rows (plains ts))),
           sides_short a b i j,
           level_rows-length (plains ts) (All-weaker (λ t. IsTupleOf n count t × IsShort t) IsShort (λ t both. both.1) (plains ts) tuples) (omega (arith, count_of, few, h)),
+          count_of,
+          few,
+          h,
         );
         word = omega arith;
       }
@@ -208,6 +210,80 @@ decide_readable limit s t v h (is, js, ranks, least, low, counts) d x =
       certificate = (is, least, low, other, verdict.parts);
       short = omega (arith, whole_length (decided s.plain t.plain (verdict_of v)) 10000 60000000 head verdict.short);
     }
+
+-- ---- stabilisers
+module _ (limit : ℕ) (h : limit ≤ 131072) (t : Tuple) (is : IsTuple t.plain) (least : 1 ≤ t.plain.rank) (low : t.plain.rank ≤ 4) (s : Side) (p : Parts) (l : LevelData) (has : HasLevel limit t.plain s.trace l) (few : HasFewEdges l 65536)
+    (less : relator_count l.tuples ≤ 393216) (own : IsSideOf t.plain s) (are : ArePartsOf t.plain s.trace l p) where
+  abbrev n : ℕ
+  n = t.plain.rank
+
+  abbrev count : ℕ
+  count = length t.plain.words
+
+  of : IsTupleOf n count t.plain
+  of = record { tuple = is; rank = refl; size = refl }
+
+  -- The end of the side is the root of the level.
+  end_is : l.root ≡ s.end.plain
+  end_is = (trace_one t.plain l.root s.end.plain s.trace s.trace is (omega (arith, low)) has.leads own.trace).1
+
+  parts_readable : ArePartsOfRank n count s.end.plain (parts_of p)
+  parts_readable = subst (λ (u : TupleData). ArePartsOfRank n count u (parts_of p)) end_is (parts_are limit n count low h t.plain of s.trace l p has few are less)
+
+  few_places : length (plains p.vertices) ≤ 32768
+  few_places =
+      let root : IsTupleOf n count l.root = root_of limit n count low h t.plain of s.trace l p has few are in
+      omega (arith, few_tuples l has.closed few root.tuple (omega (arith, root.rank, least)), ap length are.vertices)
+
+  level_short : length (rows_text (level_rows (plains p.vertices))) ≤ 12700000
+  level_short =
+      omega (
+        arith,
+        level_rows-length (plains p.vertices)
+            (All-weaker (λ u. IsTupleOf n count u × IsShort u) IsShort (λ u both. both.1) (plains p.vertices) (vertices_are limit n count low h t.plain of s.trace l p has few are)) (omega (arith, few_places)),
+        few_places,
+      )
+
+  presentation_short : length (rows_text (presentation_rows (parts_of p))) ≤ 50800000
+  presentation_short =
+      presentation_rows-length n (length (plains p.vertices)) (parts_of p) low (omega (arith, few_places)) (omega (arith, are.presented.tree.count, few_places)) (parents_placed limit n count low h t.plain of s.trace l p has few are)
+      (generators_few limit n count low h t.plain of s.trace l p has few are) (generators_placed limit n count low h t.plain of s.trace l p has few are) (relators_few limit n count low h t.plain of s.trace l p has few are less)
+      (loops_good limit n count low h t.plain of s.trace l p has few are)
+
+  stab_short : length (rows_text (stab_rows (done (side_of s) (parts_of p)))) ≤ 64750000
+  stab_short =
+      omega (
+        arith,
+        ap length (rows_append (side_rows (side_of s) ++ level_rows (plains p.vertices)) (presentation_rows (parts_of p))),
+        length-append (rows_text (side_rows (side_of s) ++ level_rows (plains p.vertices))) (rows_text (presentation_rows (parts_of p))),
+        ap length (rows_append (side_rows (side_of s)) (level_rows (plains p.vertices))),
+        length-append (rows_text (side_rows (side_of s))) (rows_text (level_rows (plains p.vertices))),
+        side_short n count (omega (arith, low)) t.plain of s own,
+        level_short,
+        presentation_short,
+      )
+
+  head_short : length (rows_text (head_rows (presented_of t.plain (done (side_of s) (parts_of p))))) ≤ 5000
+  head_short =
+      let rank = row_text (number_row (codes "rank") t.plain.rank) in
+      let tuple = row_text (words_row (codes "tuple") t.plain.words) in
+      omega (
+        arith,
+        length-append (row_text (heading_row commands.Stabiliser)) (rank ++ (tuple ++ [])),
+        length-append rank (tuple ++ []),
+        length-append tuple [],
+        number_row-length (codes "rank") 2 t.plain.rank (omega arith) (omega (arith, low)) (omega (arith, low)),
+        words_row-length (codes "tuple") t.plain,
+        is.few,
+        is.short,
+      )
+
+  -- The text of what is answered can be read back.
+  pub presented_readable : IsStabOf t.plain.rank (length t.plain.words) (done (side_of s) (parts_of p)) × (length (answer_text (presented_of t.plain (done (side_of s) (parts_of p)))) ≤ most_answer_bytes)
+  presented_readable = (
+    (own_side n count (omega (arith, low)) t.plain of s own, parts_readable),
+    omega (arith, whole_length (presented_of t.plain (done (side_of s) (parts_of p))) 5000 64750000 head_short stab_short),
+  )
 
 pub answers_readable : AnswersAreReadable
 answers_readable limit (reduce t) (answers.Reduce u s) h is own x = reduce_readable u s (subst (λ d. IsProblem (reduce d)) (sym own.0) is) (subst (λ d. IsSideOf d s) (sym own.0) own.1)

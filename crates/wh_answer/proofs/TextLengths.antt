@@ -28,7 +28,7 @@ use Rattle.wh_data.specs.AnswerParts.{IsSideOf}
 pub row_text-length : (keyword : List ℕ) (fs : List (List ℕ)) (k : ℕ) → length (fields_text fs) ≤ k → length (row_text (record { keyword = keyword; fields = fs })) ≤ length keyword + k + 1
 row_text-length keyword fs k h = omega (arith, length-append (keyword ++ fields_text fs) (codes "\n"), length-append keyword (fields_text fs), h)
 
-one_field : (f : List ℕ) (fs : List (List ℕ)) (k m : ℕ) → length f ≤ k → length (fields_text fs) ≤ m → length (fields_text (f ∷ fs)) ≤ 1 + k + m
+pub one_field : (f : List ℕ) (fs : List (List ℕ)) (k m : ℕ) → length f ≤ k → length (fields_text fs) ≤ m → length (fields_text (f ∷ fs)) ≤ 1 + k + m
 one_field f fs k m h l = omega (arith, length-append (32 ∷ f) (fields_text fs), h, l)
 
 -- ---- words
@@ -49,7 +49,7 @@ number_row-length keyword k n some small fits =
     row_text-length keyword (decimal n ∷ []) (k + 1) (omega (arith, one_field (decimal n) [] k 0 (length-decimal-le k n some small fits) (omega arith)))
 
 -- ---- moves
-set_length : (set k : ℕ) → length (below (set_item set) k) ≤ k
+pub set_length : (set k : ℕ) → length (below (set_item set) k) ≤ k
 unfolding below
 set_length set zero = omega arith
 set_length set (suc k) =
@@ -167,12 +167,11 @@ at_rows-length (t ∷ ts) are =
       at_rows-length ts (All-tail IsShort t ts are),
     )
 
-pub level_rows-length : (ts : List TupleData) → All IsShort ts → length ts ≤ 131072 → length (rows_text (level_rows ts)) ≤ 51000000
+pub level_rows-length : (ts : List TupleData) → All IsShort ts → length ts ≤ 131072 → length (rows_text (level_rows ts)) ≤ 13 + 387 * length ts
 level_rows-length ts are few =
     omega (
       arith,
       length-append (row_text (number_row (codes "level") (length ts))) (rows_text (at_rows ts)),
       number_row-length (codes "level") 6 (length ts) (omega arith) (omega (arith, few)) (omega (arith, few)),
       at_rows-length ts are,
-      few,
     )

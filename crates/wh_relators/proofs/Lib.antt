@@ -15,3 +15,4 @@ pub mod WordLists
 pub mod PairCuts
 pub mod ListedMore
 pub mod Retained
+pub mod InstanceWeights

@@ -5,4 +5,5 @@ pub mod Kept
 pub mod Choices
 pub mod Measures
 pub mod Pairs
+pub mod Weights
 pub mod Laws
