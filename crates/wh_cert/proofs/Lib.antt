@@ -17,3 +17,5 @@ pub mod JudgedGenerators
 pub mod MetParts
 pub mod MetLevels
 pub mod Spanning
+pub mod BackWays
+pub mod JudgedTrees

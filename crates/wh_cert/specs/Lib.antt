@@ -7,3 +7,4 @@ pub mod Orbits
 pub mod VertexWays
 pub mod OffTree
 pub mod Laws
+pub mod WaysBack

@@ -10,6 +10,7 @@ pub mod laws;
 mod levels;
 mod sides;
 mod stop;
+mod tree;
 mod ways;
 
 pub use certificate::check;
