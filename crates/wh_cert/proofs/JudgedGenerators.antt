@@ -1,5 +1,6 @@
 -- What is asked of generators, where the edges off the tree are known.
 use Rattle.std.proofs.Common.{◌≡◌, ◌↔◌, ℕ, ◌+◌, ◌<◌, Bool, IsTrue, List, [], ◌∷◌, ◌++◌, length, get_or, Some, Result, slice_get, refl, sym, ap, ◌∙◌, subst, arith}
+use Rattle.std.proofs.lemmas.List.{same_lists}
 use Rattle.std.proofs.lemmas.List.Elements.{All-head}
 use Rattle.std.proofs.lemmas.Option.{slice_get-get_or, same_Some}
 use Rattle.wh_stab.specs.Presentations.{Start, AreGenerators}
@@ -7,11 +8,12 @@ use Rattle.wh_stab.proofs.Words.{generators_unique}
 use Rattle.wh_data.specs.AnswerData.{PartsData}
 use Rattle.wh_cert.specs.declared.checked.Rule.TheVariants as rules
 use Rattle.wh_cert.specs.declared.stop.Stop.TheVariants.{Broken}
-use Rattle.wh_cert.specs.Demands.{Placed, IsMet, CountsGenerators, IsGeneratorAt, counts_generators, presented_by, asked_below, generator_asked, generators_asked}
+use Rattle.wh_cert.specs.Demands.{Placed, IsMet, CountsGenerators, IsGeneratorAt, counts_generators, is_generator, presented_by, asked_below, generator_asked, generators_asked}
 use Rattle.wh_cert.specs.Checks.{AreMet}
 use Rattle.wh_cert.specs.Judged.{StopsAt}
 use Rattle.wh_cert.specs.OffTree.{HasMoreOffTree}
 use Rattle.wh_cert.proofs.Judging.{one_broken, stops_before}
+use Rattle.wh_cert.proofs.MetParts.{first_met, rest_met, met_in}
 
 module _ (p : PartsData) where
   -- There is one list of edges off the tree.
@@ -45,3 +47,15 @@ module _ (p : PartsData) where
           λ t. record { edges = edges; are = are; same = here ∙ ap Some (told.0 t) ∙ sym there },
           λ g. told.1 (same_Some x y (sym here ∙ g.same ∙ ap (λ (es : List Start). slice_get es k) (one_list g.edges edges g.are are) ∙ there)),
         )
+
+-- Where all that is asked of generators is met, they are the edges off the tree.
+pub own_generators : (place : ℕ) (p : PartsData) → AreMet (generators_asked place p) → AreGenerators (presented_by p p.generators)
+own_generators place p met =
+    let each : List Placed = asked_below (generator_asked (place + 1) p) (length p.generators) in
+    let c : CountsGenerators p = first_met place (counts_generators p) each met in
+    let same : p.generators ≡ c.edges =
+    same_lists p.generators c.edges c.count (λ k d l.
+    let g : IsGeneratorAt p k = first_met (place + 1 + k) (is_generator p k) [] (met_in (generator_asked (place + 1) p) (length p.generators) k l (rest_met place (counts_generators p) each met)) in
+    let at : slice_get p.generators k ≡ slice_get c.edges k = g.same ∙ ap (λ (es : List Start). slice_get es k) (one_list p g.edges c.edges g.are c.are) in
+    same_Some (get_or p.generators k d) (get_or c.edges k d) (sym (slice_get-get_or p.generators k d l) ∙ at ∙ slice_get-get_or c.edges k d (omega (arith, l, c.count)))) in
+    subst (λ (gs : List Start). AreGenerators (presented_by p gs)) (sym same) c.are
