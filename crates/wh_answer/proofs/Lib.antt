@@ -8,6 +8,7 @@ pub mod OneAnswer
 pub mod ValidWays
 pub mod ValidSides
 pub mod ValidLevels
+pub mod ValidRelators
 pub mod Valid
 pub mod TrueVerdicts
 pub mod Meaning
