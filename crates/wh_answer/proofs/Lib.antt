@@ -22,3 +22,6 @@ pub mod PartLengths
 pub mod Readable
 pub mod StabiliserParts
 pub mod TrueStabilisers
+pub mod RootEntries
+pub mod ValidParts
+pub mod ShownStabilisers

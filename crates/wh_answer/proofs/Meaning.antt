@@ -38,7 +38,7 @@ end_flat place from heads s is low met =
     let shown : IsGeneratorFlow s.end g head f = first_met (place + g) (has_flow s.end g head f) [] (met_in (flow_asked place from heads s) s.end.rank g l met) in
     (cell f, shown.flow, subst (HasValue (cell f) (2 * g)) shown.degree shown.value))
 
-side_shown : (place : ℕ) (heads : List (ℕ × ℕ)) (t : TupleData) (s : SideData) → AreMovesOfRank t.rank s.trace → IsTuple s.end → s.end.rank ≤ 26 → AreMet (side_asked place heads t s) → LeadsToFlat t s.trace s.end
+pub side_shown : (place : ℕ) (heads : List (ℕ × ℕ)) (t : TupleData) (s : SideData) → AreMovesOfRank t.rank s.trace → IsTuple s.end → s.end.rank ≤ 26 → AreMet (side_asked place heads t s) → LeadsToFlat t s.trace s.end
 side_shown place heads t s moves is low met =
     let trace : List Placed = trace_asked place t s in
     let flows : List Placed = flows_asked (place + 2) 0 heads s in
