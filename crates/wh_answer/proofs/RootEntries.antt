@@ -1,5 +1,5 @@
 -- The tree of first walks of a level has an empty entry at the place of the root, and nowhere else.
-use Rattle.std.proofs.Common.{◌≡◌, ◌↔◌, ℕ, List, [], None, Some, slice_get, refl, ap, ◌∙◌}
+use Rattle.std.proofs.Common.{◌≡◌, ◌↔◌, ℕ, [], None, Some, slice_get, refl, ap, ◌∙◌}
 use Rattle.wh_words.specs.Levels.Reaches.{here}
 use Rattle.wh_level.specs.Trees.{LevelData, IsClosedLevel}
 use Rattle.wh_level.proofs.SearchEnds.{same_places}
