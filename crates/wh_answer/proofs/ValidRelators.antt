@@ -1,8 +1,8 @@
 -- The `relator` lines of an answer are as they are asked to be: each relator leads round in the level, its moves are the identity, and they are few enough that no image gets long.
-use Rattle.std.proofs.Common.{◌≡◌, ℕ, zero, suc, ◌+◌, ◌*◌, ◌<◌, ◌≤◌, List, [], ◌∷◌, ◌++◌, length, map, get_or, take, Some, slice_get, refl, sym, ap, subst, arith}
+use Rattle.std.proofs.Common.{◌≡◌, ℕ, zero, suc, ◌+◌, ◌*◌, ◌≤◌, List, [], ◌∷◌, length, map, get_or, take, Some, slice_get, refl, sym, ap, subst, arith}
 use Rattle.std.specs.List.{All, sum_by}
 use Rattle.std.proofs.lemmas.List.{length-map, get_or-map}
-use Rattle.std.proofs.lemmas.List.Elements.{All-nil, All-cons, All-append, All-map, All-filter}
+use Rattle.std.proofs.lemmas.List.Elements.{All-nil, All-append, All-map, All-filter}
 use Rattle.std.proofs.lemmas.List.Sums.{sum_by_push}
 use Rattle.std.proofs.lemmas.Option.{slice_get_within}
 use Rattle.wh_words.specs.Limits.{most_stabiliser_rank}
@@ -38,7 +38,7 @@ use Rattle.wh_answer.proofs.Inverses.{walk_leads}
 use Rattle.wh_answer.proofs.ValidSides.{each_met}
 
 -- ---- how long images get
--- So many times three times as much.
+-- A length after so many cuts, each of which makes it three times as long.
 abbrev tripled : ℕ → ℕ → ℕ
 tripled zero b = b
 tripled (suc c) b = tripled c (3 * b)
@@ -55,7 +55,7 @@ substitute_inversion : (k : ℕ) (w : List ℕ) → length (substitute (invert k
 substitute_inversion k [] = refl
 substitute_inversion k (x ∷ w) = ap suc (substitute_inversion k w)
 
--- After a move a word is no longer than this, where moves that weigh so much follow, with that many cuts among them at most.
+-- A word after one move more: how long it is at most, and how many cuts can follow where the moves that follow weigh so much. With these it gets no longer than was allowed before the move.
 record IsOneFurther (rest c b : ℕ) (w : List ℕ) : Type 0 where
   cuts : ℕ
   long : ℕ
@@ -77,7 +77,7 @@ substituted_length (m ∷ ms) c b w light short =
     let next : IsOneFurther (weight ms) c b (substitute m.kind w) = one_further m.kind (weight ms) c b w light short in
     subst (λ (x : ℕ). length (substitute_all ms (substitute m.kind w)) ≤ x) next.same (substituted_length ms next.cuts next.long (substitute m.kind w) next.light next.short)
 
--- Light moves have at most six cuts.
+-- Light moves have at most six cuts, so that each image has at most 3^6 letters.
 composite_letters : (g : ℕ) (ms : List Move) → IsLight ms → sum_by length (composite_below g ms) ≤ 729 * g
 composite_letters zero ms light = omega arith
 composite_letters (suc g) ms light =
