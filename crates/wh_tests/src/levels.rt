@@ -1,9 +1,11 @@
 //! Levels: the level moves of a tuple, the rows of a level, its tree and its first walks.
-ghost use Rattle.std.specs.Prelude.{◌≡◌, ◌<◌, ◌≤◌, length, IfOk, IfSome};
+ghost use Rattle.std.specs.Prelude.{◌≡◌, ℕ, ◌<◌, ◌≤◌, length, IfOk, IfSome};
 ghost use Rattle.wh_words.specs.Limits.{most_level_rank};
+ghost use Rattle.wh_words.specs.Tuples.{TupleData};
 ghost use Rattle.std.specs.List.Sorted.{IsStrictlySortedBy};
 ghost use Rattle.wh_expand.specs.Rows.{IsRow, row_tuple};
 ghost use Rattle.wh_level.specs.LevelEdges.{edge_cmp};
+ghost use Rattle.wh_workers.specs.Explorations.{Explores};
 
 use crate::support::{has_words, have_words, rank, tuple};
 use std::alloc::Global;
@@ -50,6 +52,7 @@ fn explored_over<L: Ledger>(
     requires name { blank.name ≡ L.name }
     requires parts { blank.parts ≡ L.parts }
     requires some { 0 < blank.parts }
+    ensures { IfOk result (Explores root.now.plain limit) }
 {
     let mut steps: Steps<L> = Steps::new(blank);
     explore_one(alloc, root, limit, &mut steps)
@@ -58,6 +61,7 @@ fn explored_over<L: Ledger>(
 /// What exploring the level of a root answers.
 fn explored(alloc: Global, root: &Tuple, limit: u32) -> Result<Explored, OutOfMemory>
     requires { root.now.plain.rank ≤ most_level_rank }
+    ensures { IfOk result (Explores root.now.plain limit) }
 {
     explored_over::<Brand>(alloc, root, limit, Blank::new(1))
 }
@@ -215,7 +219,9 @@ fn the_row_of_a_root_misses_its_images(rt: HostRuntime) -> Result<(), Fail> {
 }
 
 /// The level that was explored, if its tuples are at most as many as the limit.
-fn found(explored: Explored) -> Option<Level> {
+fn found(explored: Explored) -> Option<Level>
+    ensures { (root : TupleData) (limit : ℕ) → Explores root limit explored → IfSome result (λ l. l.root ≡ root) }
+{
     match explored {
         Explored::Closed(level) => Some(level),
         Explored::Passed => None,
@@ -223,8 +229,13 @@ fn found(explored: Explored) -> Option<Level> {
 }
 
 /// The level of a root, if it has at most so many tuples.
-fn level_within(alloc: Global, root: &Tuple, limit: u32) -> Result<Option<Level>, Fail>
+pub(crate) fn level_within(
+    alloc: Global,
+    root: &Tuple,
+    limit: u32,
+) -> Result<Option<Level>, OutOfMemory>
     requires { root.now.plain.rank ≤ most_level_rank }
+    ensures { IfOk result (λ o. IfSome o (λ l. l.root ≡ root.now.plain)) }
 {
     Ok(found(explored(alloc, root, limit)?))
 }
@@ -232,7 +243,7 @@ fn level_within(alloc: Global, root: &Tuple, limit: u32) -> Result<Option<Level>
 /// The level of the root of a problem text, if it has at most so many tuples.
 fn level_of(alloc: Global, text: &str, limit: u32) -> Result<Option<Level>, Fail> {
     let root = low_tuple(alloc, text)?;
-    level_within(alloc, &root, limit)
+    Ok(level_within(alloc, &root, limit)?)
 }
 
 /// The level of the root of a problem text, which has at most so many tuples.

@@ -16,6 +16,8 @@ mod moves;
 #[cfg(test)]
 mod peaks;
 #[cfg(test)]
+mod stabilisers;
+#[cfg(test)]
 mod straight_lists;
 #[cfg(test)]
 mod streams;
