@@ -11,6 +11,7 @@ pub mod ValidLevels
 pub mod ValidRelators
 pub mod Valid
 pub mod TrueVerdicts
+pub mod ShownSides
 pub mod Meaning
 pub mod WalkLengths
 pub mod OwnParts

@@ -36,7 +36,8 @@ use Rattle.wh_data.specs.PresentationTexts.{presentation_rows}
 use Rattle.wh_answer.specs.Sides.{IsSideOf}
 use Rattle.wh_answer.specs.Answers.{Decides}
 use Rattle.wh_answer.specs.Answers.Decides.{other_lengths, one_end, too_long, too_many, joined, off_level}
-use Rattle.wh_answer.specs.StabiliserAnswers.{HasLevel, ArePartsOf}
+use Rattle.wh_answer.specs.StabiliserAnswers.{HasLevel, ArePartsOf, Presents}
+use Rattle.wh_answer.specs.StabiliserAnswers.Presents.{too_long as too_long_end, too_many as too_many_tuples, many_edges, many_relators, presented}
 use Rattle.wh_answer.specs.Certified.{IsDecided, IsReadable}
 use Rattle.wh_answer.specs.Laws.{IsProblem, AnswersAreReadable}
 use Rattle.wh_answer.proofs.OwnParts.{trace_moves, walk_moves, inverse_moves, trace_end, trace_length, flow_of_generator}
@@ -279,11 +280,20 @@ module _ (limit : ℕ) (h : limit ≤ 131072) (t : Tuple) (is : IsTuple t.plain)
       )
 
   -- The text of what is answered can be read back.
-  pub presented_readable : IsStabOf t.plain.rank (length t.plain.words) (done (side_of s) (parts_of p)) × (length (answer_text (presented_of t.plain (done (side_of s) (parts_of p)))) ≤ most_answer_bytes)
+  presented_readable : IsStabOf t.plain.rank (length t.plain.words) (done (side_of s) (parts_of p)) × (length (answer_text (presented_of t.plain (done (side_of s) (parts_of p)))) ≤ most_answer_bytes)
   presented_readable = (
     (own_side n count (omega (arith, low)) t.plain of s own, parts_readable),
     omega (arith, whole_length (presented_of t.plain (done (side_of s) (parts_of p))) 5000 64750000 head_short stab_short),
   )
+
+stabiliser_readable : (limit : ℕ) (t : Tuple) (v : StabVerdict) → limit ≤ 131072 → IsProblem (stabiliser t.plain) → Presents limit t.plain v → IsDecided (answer_of (answers.Stabiliser t v)) → IsReadable (answer_of (answers.Stabiliser t v))
+stabiliser_readable limit t v h is (presented {side = s} {parts = p} {l = l} has few less own are) x =
+    let read = presented_readable limit h t is.0 is.1 is.2 s p l has few less own are in
+    record { certificate = (is.0, is.1, is.2, read.0); short = read.1 }
+stabiliser_readable limit t v h is (too_long_end leads long) x = absurd x
+stabiliser_readable limit t v h is (too_many_tuples leads short more) x = absurd x
+stabiliser_readable limit t v h is (many_edges has more) x = absurd x
+stabiliser_readable limit t v h is (many_relators has few more) x = absurd x
 
 pub answers_readable : AnswersAreReadable
 answers_readable limit (reduce t) (answers.Reduce u s) h is own x = reduce_readable u s (subst (λ d. IsProblem (reduce d)) (sym own.0) is) (subst (λ d. IsSideOf d s) (sym own.0) own.1)
@@ -295,7 +305,8 @@ answers_readable limit (straighten t list) (answers.Stabiliser u v) h is own x =
 answers_readable limit (stabiliser t) (answers.Reduce u c) h is own x = absurd own
 answers_readable limit (stabiliser t) (answers.Decide a b v) h is own x = absurd own
 answers_readable limit (stabiliser t) (answers.Straighten u g ms e) h is own x = absurd own
-answers_readable limit (stabiliser t) (answers.Stabiliser u v) h is own x = absurd x
+answers_readable limit (stabiliser t) (answers.Stabiliser u v) h is own x =
+    stabiliser_readable limit u v h (subst (λ d. IsProblem (stabiliser d)) (sym own.0) is) (subst (λ d. Presents limit d v) (sym own.0) own.1) x
 answers_readable limit (decide s t) (answers.Reduce u c) h is own x = absurd own
 answers_readable limit (decide s t) (answers.Straighten u g ms e) h is own x = absurd own
 answers_readable limit (straighten t list) (answers.Reduce u c) h is own x = absurd own

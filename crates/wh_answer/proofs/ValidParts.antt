@@ -1,5 +1,5 @@
--- The lines of what presents a stabiliser are as they are asked to be, where those of its relators are.
-use Rattle.std.proofs.Common.{◌≡◌, ◌≢◌, ◌↔◌, ℕ, zero, suc, ◌+◌, ◌<◌, ◌≤◌, cond, List, [], ◌∷◌, ◌++◌, length, get_or, Option, None, Some, slice_get, inl, inr, refl, sym, ap, ◌∙◌, subst, arith}
+-- The lines of what presents a stabiliser are as they are asked to be.
+use Rattle.std.proofs.Common.{◌≡◌, ◌≢◌, ◌↔◌, ℕ, zero, suc, ◌+◌, ◌<◌, ◌≤◌, cond, List, [], ◌∷◌, ◌++◌, length, get_or, map, Option, None, Some, slice_get, inl, inr, refl, sym, ap, ◌∙◌, subst, arith}
 use Rattle.std.proofs.lemmas.Bool.{cases_lt, lt-ltb, le-ltb}
 use Rattle.std.proofs.lemmas.Option.{slice_get-get_or, slice_get_within}
 use Rattle.wh_words.specs.Limits.{most_stabiliser_rank}
@@ -7,9 +7,10 @@ use Rattle.wh_words.specs.Tuples.{TupleData, IsTuple}
 use Rattle.wh_words.specs.Levels.{IsLevel}
 use Rattle.wh_level.specs.Trees.{Parents, LevelData, IsClosedLevel}
 use Rattle.wh_stab.specs.SpanningTrees.{IsSpanningTree, IsLink}
-use Rattle.wh_stab.specs.Presentations.{Start, AreGenerators}
+use Rattle.wh_stab.specs.Presentations.{Start, PresentationData, AreGenerators}
+use Rattle.wh_stab.specs.Relators.{AreRelators}
 use Rattle.wh_stab.proofs.FirstWalkTrees.{first_walks_span}
-use Rattle.wh_stab.proofs.OwnStabilisers.{same_generators}
+use Rattle.wh_stab.proofs.OwnStabilisers.{same_generators, same_relators, trace_root}
 use Rattle.wh_fields.specs.FlowFields.{heads_from}
 use Rattle.wh_data.specs.declared.answer.Side.{Side}
 use Rattle.wh_data.specs.declared.answer.Parts.{Parts}
@@ -23,12 +24,13 @@ use Rattle.wh_cert.specs.Demands.{Placed, IsTreeEdge, is_tree_edge, counts_gener
 use Rattle.wh_cert.specs.Checks.{AreMet}
 use Rattle.wh_cert.proofs.Judging.{one_met, both_met}
 use Rattle.wh_cert.proofs.Spanning.{one_less}
-use Rattle.wh_answer.specs.StabiliserAnswers.{presentation_by, Presents}
+use Rattle.wh_answer.specs.StabiliserAnswers.{told_loop, presentation_by, Presents}
 use Rattle.wh_answer.specs.StabiliserAnswers.Presents.{presented}
 use Rattle.wh_answer.proofs.Inverses.{trace_leads}
 use Rattle.wh_answer.proofs.ValidSides.{each_met, side_met}
 use Rattle.wh_answer.proofs.ValidLevels.{level_met}
 use Rattle.wh_answer.proofs.RootEntries.{root_entries}
+use Rattle.wh_answer.proofs.ValidRelators.{relators_met}
 
 -- ---- the vertices of `tree` lines
 vertex_before : (r j : ℕ) → j < r → tree_vertex r j ≡ j
@@ -76,7 +78,7 @@ edge_of root p head v spans l other number = by (get_or p.tree v None) (slice_ge
     by None at = absurd (other at)
     by (Some s) at =
         let link : IsLink p.vertices s.0 s.1 v = spans.links v s.0 s.1 at in
-        record { number = number; parent = s.0; via = s.1; entry = at; from = link.tuple; starts = link.starts; moves = link.moves.moves; ends = link.ends; back = spans.rooted v l }
+        record { number = number; parent = s.0; via = s.1; entry = at; from = link.tuple; starts = link.starts; valid = link.moves.valid; moves = link.moves.moves; ends = link.ends; back = spans.rooted v l }
 
 module _ (end : TupleData) (p : PartsData) (spans : IsSpanningTree end p.vertices p.tree) (entries : (v : ℕ) → (slice_get p.tree v ≡ Some None) ↔ (v ≡ root_place end p.vertices)) where
   abbrev top : ℕ
@@ -134,11 +136,15 @@ parts_met end l p place closed root vertices tree generators relators =
     (both_met edges (starts ++ ways) (tree_met end l p at closed root vertices tree)
     (both_met starts ways (generators_met p (at + tree_lines p) generators) (relators after)))
 
-pub stab_met : (limit : ℕ) (t : TupleData) (side : Side) (parts : Parts) → IsTuple t → 1 ≤ t.rank → t.rank ≤ most_stabiliser_rank → Presents limit t (Done side parts) → ((at : ℕ) → AreMet (relators_asked at side.end.plain.rank (parts_of parts))) →
+pub stab_met : (limit : ℕ) (t : TupleData) (side : Side) (parts : Parts) → IsTuple t → t.rank ≤ most_stabiliser_rank → Presents limit t (Done side parts) →
     AreMet (stab_asked 3 (heads_from 0 side.flows) (tree_heads_from 0 parts.tree) t (done (side_of side) (parts_of parts)))
-stab_met limit t side parts is some low (presented {l = l} has few less own are) relators =
+stab_met limit t side parts is low (presented {l = l} has few less own are) =
     let p : PartsData = parts_of parts in
+    let q : PresentationData = presentation_by side.trace parts in
     let root : l.root ≡ side.end.plain = sym (trace_leads t l.root side.trace has.leads) ∙ trace_leads t side.end.plain side.trace own.trace in
-    let generators : AreGenerators (presented_by p parts.generators) = same_generators (presentation_by side.trace parts) (presented_by p parts.generators) refl refl refl are.presented.generators in
+    let end : IsTuple side.end.plain × (side.end.plain.rank ≡ t.rank) = trace_root t side.end.plain side.trace is low own.trace in
+    let generators : AreGenerators (presented_by p parts.generators) = same_generators q (presented_by p parts.generators) refl refl refl are.presented.generators in
+    let relators : AreRelators (presented_by p parts.generators) (map told_loop parts.relators) = same_relators q (presented_by p parts.generators) refl refl refl (map told_loop parts.relators) are.relators in
+    let level : IsLevel side.end.plain p.vertices = subst (λ (u : TupleData). IsLevel u p.vertices) root are.presented.level in
     both_met (side_asked 3 (heads_from 0 side.flows) t (side_of side)) (parts_asked (3 + side_lines t.rank) (tree_heads_from 0 parts.tree) side.end.plain p) (side_met 3 t side is (omega (arith, low)) own)
-    (parts_met side.end.plain l p (3 + side_lines t.rank) has.closed root are.vertices are.tree generators relators)
+    (parts_met side.end.plain l p (3 + side_lines t.rank) has.closed root are.vertices are.tree generators (λ at. relators_met side.end.plain p at end.0 (omega (arith, end.1, low)) level relators))

@@ -102,7 +102,7 @@ short_images n r low light k l = omega (arith, composite_letters n (take k r.mov
 -- A walk in a level takes steps from tuple to tuple of it.
 steps_in : {root t u : TupleData} {ms : List Move} (ts : List TupleData) → IsLevel root ts → InLevel root t → Reaches t ms u → StepsIn ts t ms
 steps_in ts level there here = tt
-steps_in {t = t} ts level there (step {m = m} l r) = (l.moves, (level.exact (act t m)).1 (in_level_pushed there l), steps_in ts level (in_level_pushed there l) r)
+steps_in {t = t} ts level there (step {m = m} l r) = (l.valid, l.moves, (level.exact (act t m)).1 (in_level_pushed there l), steps_in ts level (in_level_pushed there l) r)
 
 -- The way leads round from the tuple of rank n at its place. Its moves are the identity, and aren't too heavy.
 record IsLightWay (n : ℕ) (ts : List TupleData) (w : Way) : Type 0 where

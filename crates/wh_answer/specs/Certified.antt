@@ -18,14 +18,16 @@ use Rattle.wh_data.specs.Limits.{most_answer_bytes}
 use Rattle.wh_data.specs.AnswerParts.{IsCertificate, heads_of, tree_heads_of}
 use Rattle.wh_cert.specs.Demands.{asked}
 use Rattle.wh_cert.specs.Checks.{AreMet}
+use Rattle.wh_answer.specs.StabiliserMeanings.{PresentsStabiliser}
 
--- The answer can be checked: it isn't undecided, and it is one of `reduce` or `decide`.
+-- The answer can be checked: it isn't undecided, and it isn't one of `straighten`.
 abbrev pub IsDecided : AnswerData → Type 0
 IsDecided (reduce t s) = Unit {0}
 IsDecided (decide s t (undecided bound)) = ⊥
 IsDecided (decide s t v) = Unit {0}
 IsDecided (straighten t given ms end) = ⊥
-IsDecided (stabiliser t v) = ⊥
+IsDecided (stabiliser t (done s p)) = Unit {0}
+IsDecided (stabiliser t (stopped bound)) = ⊥
 
 -- The text of the answer is a certificate that isn't too long.
 pub record IsReadable (a : AnswerData) : Type 0 where
@@ -85,7 +87,7 @@ pub record IsCarriedBy (s t : TupleData) (ms : List Move) : Type 0 where
   pub automorphism : IsAutomorphism s.rank (composite s.rank ms)
   pub carries : act_by (composite s.rank ms) s ≡ t
 
--- What a valid answer shows: for a tuple that is to be reduced, that its trace leads to an end that no cut shortens, and that no automorphism takes it to a shorter tuple; for a yes, that its moves are an automorphism that takes the first tuple to the second; and for a no, that the two traces lead to ends that no cut shortens, which have different lengths, or have one length where the second isn't in the level of the first, and that no automorphism takes the first tuple to the second.
+-- What a valid answer shows: for a tuple that is to be reduced, that its trace leads to an end that no cut shortens, and that no automorphism takes it to a shorter tuple; for a yes, that its moves are an automorphism that takes the first tuple to the second; and for a no, that the two traces lead to ends that no cut shortens, which have different lengths, or have one length where the second isn't in the level of the first, that no automorphism takes the first tuple to the second; and for a stabiliser, that the trace leads to an end that no cut shortens, and that what is told presents the stabiliser of the tuple.
 abbrev pub Shows : AnswerData → Type 0
 Shows (reduce t s) = LeadsToFlat t s.trace s.end × IsShortestOf t s.end
 Shows (decide s t (yes ms)) = IsCarriedBy s t ms
@@ -93,4 +95,5 @@ Shows (decide s t (no_length a b)) = LeadsToFlat s a.trace a.end × LeadsToFlat 
 Shows (decide s t (no_level a b ts)) = LeadsToFlat s a.trace a.end × LeadsToFlat t b.trace b.end × (tuple_length a.end ≡ tuple_length b.end) × ¬ (InLevel a.end b.end) × ¬ (IsCarried s t)
 Shows (decide s t (undecided bound)) = Unit {0}
 Shows (straighten t given ms end) = Unit {0}
-Shows (stabiliser t v) = Unit {0}
+Shows (stabiliser t (done s p)) = LeadsToFlat t s.trace s.end × PresentsStabiliser t s p
+Shows (stabiliser t (stopped bound)) = Unit {0}

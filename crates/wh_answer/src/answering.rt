@@ -112,8 +112,8 @@ fn presented(alloc: Global, tuple: &Tuple, limit: u32) -> Result<Answer, OutOfMe
 /// the first tuple onto the second (Lyndon and Schupp, I.4). The stabiliser of a tuple, of rank MOST_STABILISER_RANK at
 /// most, is answered with the side of the tuple, the level of its end, the tree of first walks, the generators off the tree
 /// and the relators (McCool 1975); it is undecided where the end has more than 256 letters, the level has more tuples than
-/// the limit, or it has too many edges or relators. An answer of `reduce` or `decide` that isn't undecided is a valid
-/// certificate: its lines keep all the rules that `wh_cert` judges by.
+/// the limit, or it has too many edges or relators. An answer that isn't undecided is a valid certificate: its lines keep
+/// all the rules that `wh_cert` judges by.
 pub fn answer(alloc: Global, problem: &Problem, limit: u32) -> Result<Answer, OutOfMemory>
     requires { IsAnswerable (problem_of problem.now) }
     ensures answers { IfOk result (Answers limit (problem_of problem.now)) }

@@ -1,18 +1,17 @@
 -- Ways of moves through vertices, move by move.
-use Rattle.std.proofs.Common.{◌≡◌, ◌≢◌, ℕ, zero, suc, ◌+◌, ◌<◌, ◌≤◌, Bool, true, false, List, [], ◌∷◌, ◌++◌, length, get_or, take, drop, Option, Some, None, Result, Ok, Err, slice_get, Contains, inl, inr, refl, sym, ap, ◌∙◌, subst, ◌↔◌, IsTrue, arith, append-nil}
+use Rattle.std.proofs.Common.{◌≡◌, ◌≢◌, ℕ, ◌+◌, ◌<◌, ◌≤◌, Bool, false, List, [], ◌∷◌, ◌++◌, length, get_or, take, drop, Option, Some, None, Result, Ok, Err, slice_get, Contains, inl, inr, sym, ap, ◌∙◌, subst, ◌↔◌, IsTrue, arith}
 use Rattle.std.specs.Prelude.{MatchOption}
 use Rattle.std.specs.List.{All}
 use Rattle.std.specs.List.Sorted.{IsStrictlySortedBy, IsSearchInRange, IsBinarySearchResult}
 use Rattle.std.specs.Result.{result_ok}
 use Rattle.std.specs.Ordering.{ordering_index, is_eq}
-use Rattle.std.specs.declared.cmp.Ordering.{Ordering}
 use Rattle.std.specs.declared.cmp.Ordering.TheVariants.{Less, Equal, Greater}
 use Rattle.std.proofs.lemmas.Bool.{cases_lt, true≢false}
-use Rattle.std.proofs.lemmas.List.{take_more, take_all, drop_more, drop_all, length-map, length-append, get_or-map, get_or_push}
+use Rattle.std.proofs.lemmas.List.{take_more, drop_more, drop_all, length-map, length-append, get_or-map, get_or_push}
 use Rattle.std.proofs.Math.ListN.{get_or-append}
 use Rattle.std.proofs.lemmas.Option.{slice_get-get_or, slice_get_within, get_or_from_slice_get}
 use Rattle.wh_words.specs.Tuples.{TupleData, Tuple, tuple_cmp, tuple_length}
-use Rattle.wh_words.specs.Moves.{Move, IsIdentityCut}
+use Rattle.wh_words.specs.Moves.{Move, IsMove, IsIdentityCut}
 use Rattle.wh_words.specs.Action.{act, act_all}
 use Rattle.wh_words.specs.Levels.{IsLevel, InLevel}
 use Rattle.wh_words.proofs.MoveLists.{act_all-append}
@@ -69,10 +68,10 @@ level_vertices n root ts level ranks = record {
 }
 
 -- A move that is no identity cut leads where its image is.
-pub step_taken : (ts : List Tuple) (from : ℕ) (t : Tuple) (m : Move) (b : Bool) (r : Option ℕ) → from < length ts → t ≡ get_or ts from t → IsTrue b ↔ IsIdentityCut m.kind → b ≡ false →
+pub step_taken : (ts : List Tuple) (from : ℕ) (t : Tuple) (m : Move) (b : Bool) (r : Option ℕ) → from < length ts → t ≡ get_or ts from t → IsMove m → IsTrue b ↔ IsIdentityCut m.kind → b ≡ false →
     MatchOption r (¬ (Contains (plains ts) (act t.plain m))) (λ v. slice_get (plains ts) v ≡ Some (act t.plain m)) → MatchOption r (¬ (IsStepIn (plains ts) (tuple_at (plains ts) from) m)) (LeadsTo (plains ts) (tuple_at (plains ts) from) m)
-step_taken ts from t m b None l e exact other h = λ s. h (subst (λ (u : TupleData). Contains (plains ts) (act u m)) (sym (plain_at ts from t l e)) s.1)
-step_taken ts from t m b (Some v) l e exact other h = (λ i. true≢false (sym (exact.1 i) ∙ other), h ∙ ap (λ (u : TupleData). Some (act u m)) (plain_at ts from t l e))
+step_taken ts from t m b None l e valid exact other h = λ s. h (subst (λ (u : TupleData). Contains (plains ts) (act u m)) (sym (plain_at ts from t l e)) s.2)
+step_taken ts from t m b (Some v) l e valid exact other h = (valid, λ i. true≢false (sym (exact.1 i) ∙ other), h ∙ ap (λ (u : TupleData). Some (act u m)) (plain_at ts from t l e))
 
 -- ---- ways
 -- The tuple at a place is what stands there.
@@ -120,12 +119,12 @@ module _ (ts : List TupleData) (at : ℕ) (ms : List Move) (n here : ℕ) (stops
   pub way_stops : ¬ (IsStepIn ts (tuple_at ts here) m) → ¬ (StepsIn ts (tuple_at ts at) ms)
   way_stops lacks h =
       let left : StepsIn ts now (m ∷ drop (n + 1) ms) = subst (StepsIn ts now) rest (far.steps.0 h) in
-      lacks (subst (λ (t : TupleData). IsStepIn ts t m) (sym standing) (left.0, left.1))
+      lacks (subst (λ (t : TupleData). IsStepIn ts t m) (sym standing) (left.0, left.1, left.2))
 
   pub way_goes_on : (next : ℕ) (new : List ℕ) → LeadsTo ts (tuple_at ts here) m next → new ≡ stops ++ next ∷ [] → IsFollowed ts at ms (n + 1) next new
   way_goes_on next new leads e =
       let goes : LeadsTo ts now m next = subst (λ (t : TupleData). LeadsTo ts t m next) standing leads in
-      let stands : slice_get ts next ≡ Some (act_all (tuple_at ts at) (take (n + 1) ms)) = goes.1 ∙ ap Some (sym next_tuple) in
+      let stands : slice_get ts next ≡ Some (act_all (tuple_at ts at) (take (n + 1) ms)) = goes.2 ∙ ap Some (sym next_tuple) in
       record {
         stands = stands;
         count = ap length e ∙ (let longer : length (stops ++ next ∷ []) ≡ n + 1 + 1 = omega (arith, length-append stops (next ∷ []), far.count) in longer);
@@ -137,10 +136,11 @@ module _ (ts : List TupleData) (at : ℕ) (ms : List Move) (n here : ℕ) (stops
               ap (slice_get ts) (get_or_push stops next d k last) ∙ stands ∙ ap (λ (j : ℕ). Some (act_all (tuple_at ts at) (take j ms))) number
         ];
         steps = (
-          λ h. subst (λ (t : TupleData). StepsIn ts t (drop (n + 1) ms)) (sym next_tuple) (subst (StepsIn ts now) rest (far.steps.0 h)).2,
+          λ h. subst (λ (t : TupleData). StepsIn ts t (drop (n + 1) ms)) (sym next_tuple) (subst (StepsIn ts now) rest (far.steps.0 h)).3,
           λ h. far.steps.1 (subst (StepsIn ts now) (sym rest) (
             goes.0,
-            (next, slice_get_within ts next (act now m) goes.1, get_or_from_slice_get ts next (act now m) (act now m) goes.1),
+            goes.1,
+            (next, slice_get_within ts next (act now m) goes.2, get_or_from_slice_get ts next (act now m) (act now m) goes.2),
             subst (λ (t : TupleData). StepsIn ts t (drop (n + 1) ms)) next_tuple h,
           )),
         );

@@ -29,12 +29,12 @@ entry_rank n es place s e all within read is =
 pub edge_tested : (p : PartsData) (head place from : ℕ) (via : Move) (t : TupleData) {b : Bool} → slice_get p.tree place ≡ Some (Some (from, via)) → slice_get p.vertices place ≡ Some t → head ≡ place + 1 → HasWayBack p.tree place →
     IsTrue b ↔ IsLed p.vertices from via t → IsTrue b ↔ IsTreeEdge p head place
 edge_tested p head place from via t entry at number back told = (
-  λ b. let led = told.0 b in record { number = number; parent = from; via = via; entry = entry; from = led.tuple; starts = led.starts; moves = led.moves; ends = at ∙ ap Some (sym led.ends); back = back },
+  λ b. let led = told.0 b in record { number = number; parent = from; via = via; entry = entry; from = led.tuple; starts = led.starts; valid = led.valid; moves = led.moves; ends = at ∙ ap Some (sym led.ends); back = back },
   λ e.
       let own : (e.parent, e.via) ≡ (from, via) = same_Some (e.parent, e.via) (from, via) (same_Some (Some (e.parent, e.via)) (Some (from, via)) (sym e.entry ∙ entry)) in
       told.1
       (subst (λ (s : ℕ × Move). IsLed p.vertices s.0 s.1 t) own
-      (record { tuple = e.from; starts = e.starts; moves = e.moves; ends = same_Some (act e.from e.via) t (sym e.ends ∙ at) })),
+      (record { tuple = e.from; starts = e.starts; valid = e.valid; moves = e.moves; ends = same_Some (act e.from e.via) t (sym e.ends ∙ at) })),
 )
 
 -- ---- the root

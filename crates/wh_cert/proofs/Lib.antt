@@ -19,3 +19,6 @@ pub mod MetLevels
 pub mod Spanning
 pub mod BackWays
 pub mod JudgedTrees
+pub mod RelatorNumbers
+pub mod RelatorComposites
+pub mod JudgedRelators

@@ -134,7 +134,7 @@ asked_before : (heads : List (ℕ × ℕ)) (tree_heads : List ℕ) (answer : Ans
 asked_before heads tree_heads (reduce t s) is = side_before (answer_lines (reduce t s)) (head_lines (reduce t s)) heads t s is (omega arith)
 asked_before heads tree_heads (decide s t v) is = verdict_before (answer_lines (decide s t v)) (head_lines (decide s t v)) heads s t v is.1 (omega arith)
 asked_before heads tree_heads (straighten t given ms end) is = absurd is
-asked_before heads tree_heads (stabiliser t v) is = absurd is
+asked_before heads tree_heads (stabiliser t v) is = stab_before (answer_lines (stabiliser t v)) (head_lines (stabiliser t v)) heads tree_heads t v is (omega arith)
 
 pub broken_line : (heads : List (ℕ × ℕ)) (tree_heads : List ℕ) (answer : AnswerData) (place : ℕ) (rule : Rule) → IsAnswerOfOneRank answer → IsFirstBroken (asked heads tree_heads answer) place rule → place < answer_lines answer
 broken_line heads tree_heads answer place rule is first = broken_before (answer_lines answer) (asked heads tree_heads answer) place rule (asked_before heads tree_heads answer is) first

@@ -1,6 +1,6 @@
 -- What is met of the lines of a level and of a tree makes the vertices a level, and the parents a tree of it.
-use Rattle.std.proofs.Common.{◌≡◌, ◌≢◌, ℕ, zero, suc, ◌+◌, ◌-◌, ◌<◌, ◌≤◌, Bool, true, false, cond, List, [], ◌∷◌, length, get_or, Option, None, Some, slice_get, Contains, position, reverse, inl, inr, refl, sym, ap, ◌∙◌, subst, ◌↔◌, arith}
-use Rattle.std.specs.List.{All, count_by, position_or_len}
+use Rattle.std.proofs.Common.{◌≡◌, ◌≢◌, ℕ, zero, suc, ◌+◌, ◌-◌, ◌<◌, ◌≤◌, Bool, cond, List, [], ◌∷◌, length, get_or, Option, None, Some, slice_get, Contains, position, inl, inr, refl, sym, ap, ◌∙◌, subst, ◌↔◌, arith}
+use Rattle.std.specs.List.{count_by, position_or_len}
 use Rattle.std.specs.Option.{is_some, IfSome, unwrap_or}
 use Rattle.std.specs.Ordering.{is_eq}
 use Rattle.std.proofs.lemmas.Bool.{true≢false, cases_lt, cases_eq, lt-ltb, le-ltb}
@@ -8,15 +8,15 @@ use Rattle.std.proofs.lemmas.List.Elements.{All-contains}
 use Rattle.std.proofs.lemmas.Bool.Decides.{nat_tests}
 use Rattle.std.proofs.lemmas.List.Quantifiers.{position-Some}
 use Rattle.std.proofs.lemmas.List.Sums.{sum_by-cons, fails_before_first}
-use Rattle.std.proofs.lemmas.Option.{slice_get-get_or, slice_get_within, get_or_from_slice_get, same_Some}
+use Rattle.std.proofs.lemmas.Option.{slice_get-get_or, slice_get_within, same_Some}
 use Rattle.wh_words.specs.Tuples.{TupleData, tuple_length, tuple_cmp}
-use Rattle.wh_words.specs.Moves.{Move, IsMove}
+use Rattle.wh_words.specs.Moves.{Move}
 use Rattle.wh_words.specs.Action.{act}
-use Rattle.wh_words.specs.Levels.{IsLevelMove, InLevel, IsLevel}
+use Rattle.wh_words.specs.Levels.{InLevel, IsLevel}
 use Rattle.wh_words.specs.Levels.Reaches.{here}
 use Rattle.wh_words.proofs.SameTuples.{tied, tied_with_itself}
 use Rattle.wh_moves.proofs.Walks.{in_level_pushed}
-use Rattle.wh_level.specs.Trees.{Parents, LeadsBack, HasWayBack}
+use Rattle.wh_level.specs.Trees.{LeadsBack, HasWayBack}
 use Rattle.wh_level.specs.Trees.LeadsBack.{root, step}
 use Rattle.wh_stab.specs.SpanningTrees.{IsSpanningTree, IsLink}
 use Rattle.wh_stab.proofs.Places.{contained, place_contained}
@@ -74,7 +74,7 @@ is_tree_vertex r n v low l other = elim (cases_lt v r) [
       (v - 1, omega (arith, more, l), ap (λ b. cond b (v - 1) (v - 1 + 1)) (le-ltb (v - 1) r before) ∙ next)
 ]
 
-module _ (place from : ℕ) (heads : List ℕ) (end : TupleData) (p : PartsData) (are : ArePartsOfRank end.rank end p) (moves : All (λ e. IfSome e (λ s. IsMove s.1)) p.tree)
+module _ (place from : ℕ) (heads : List ℕ) (end : TupleData) (p : PartsData) (are : ArePartsOfRank end.rank end p)
     (level : AreMet (level_asked place end None p.vertices)) (tree : AreMet (tree_asked from heads (root_place end p.vertices) p)) where
   abbrev top : ℕ
   top = root_place end p.vertices
@@ -112,13 +112,12 @@ module _ (place from : ℕ) (heads : List ℕ) (end : TupleData) (p : PartsData)
       let (head, edge) = edge_of v (slice_get_within p.tree v (Some (q, m)) e) (off_top v (q, m) e) in
       let same : (edge.parent, edge.via) ≡ (q, m) = same_entry v edge.entry e in
       let here : Contains p.tree (Some (edge.parent, edge.via)) = contained p.tree v (Some (edge.parent, edge.via)) edge.entry in
-      let valid : IsMove edge.via = All-contains (λ o. IfSome o (λ s. IsMove s.1)) p.tree (Some (edge.parent, edge.via)) moves here in
       let rank : edge.via.rank ≡ end.rank = All-contains (λ o. IfSome o (λ s. s.1.rank ≡ end.rank)) p.tree (Some (edge.parent, edge.via)) are.parents here in
       let own : edge.from.rank ≡ end.rank = All-contains (λ t. t.rank ≡ end.rank) p.vertices edge.from are.vertices (contained p.vertices edge.parent edge.from edge.starts) in
       let link : IsLink p.vertices edge.parent edge.via v = record {
         tuple = edge.from;
         starts = edge.starts;
-        moves = record { valid = valid; rank = rank ∙ sym own; kept = high v (act edge.from edge.via) edge.ends ∙ sym (high edge.parent edge.from edge.starts); moves = edge.moves };
+        moves = record { valid = edge.valid; rank = rank ∙ sym own; kept = high v (act edge.from edge.via) edge.ends ∙ sym (high edge.parent edge.from edge.starts); moves = edge.moves };
         ends = edge.ends;
       } in
       subst (λ (s : ℕ × Move). IsLink p.vertices s.0 s.1 v) same link

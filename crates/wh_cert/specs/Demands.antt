@@ -3,7 +3,7 @@ use Rattle.std.specs.Prelude.{◌≡◌, ◌≢◌, ℕ, zero, suc, ◌+◌, ◌
 use Rattle.std.specs.declared.cmp.Ordering.TheVariants.{Less}
 use Rattle.wh_words.specs.Letters.{inverse_letter}
 use Rattle.wh_words.specs.Tuples.{TupleData, tuple_length, tuple_cmp}
-use Rattle.wh_words.specs.Moves.{Move, IsIdentityCut}
+use Rattle.wh_words.specs.Moves.{Move, IsMove, IsIdentityCut}
 use Rattle.wh_words.specs.Action.{act, act_all}
 use Rattle.wh_words.specs.Levels.{IsLevelMove}
 use Rattle.wh_words.specs.Edges.{deg}
@@ -117,6 +117,7 @@ pub record IsTreeEdge (p : PartsData) (head v : ℕ) : Type 0 where
   pub entry : slice_get p.tree v ≡ Some (Some (parent, via))
   pub from : TupleData
   pub starts : slice_get p.vertices parent ≡ Some from
+  pub valid : IsMove via
   pub moves : ¬ (IsIdentityCut via.kind)
   pub ends : slice_get p.vertices v ≡ Some (act from via)
   pub back : HasWayBack p.tree v
@@ -140,7 +141,7 @@ pub record IsGeneratorAt (p : PartsData) (k : ℕ) : Type 0 where
 -- No move of a list is an identity cut, and each leads from a tuple to one of the list, the first move from this one.
 abbrev pub StepsIn : List TupleData → TupleData → List Move → Type 0
 StepsIn ts t [] = Unit {0}
-StepsIn ts t (m ∷ ms) = ¬ (IsIdentityCut m.kind) × Contains ts (act t m) × StepsIn ts (act t m) ms
+StepsIn ts t (m ∷ ms) = IsMove m × ¬ (IsIdentityCut m.kind) × Contains ts (act t m) × StepsIn ts (act t m) ms
 
 -- What is asked is so.
 abbrev pub IsMet : Demand → Type 0
@@ -282,4 +283,4 @@ abbrev pub asked : List (ℕ × ℕ) → List ℕ → AnswerData → List Placed
 asked heads tree_heads (reduce t s) = side_asked (head_lines (reduce t s)) heads t s
 asked heads tree_heads (decide s t v) = verdict_asked (head_lines (decide s t v)) heads s t v
 asked heads tree_heads (straighten t given ms end) = []
-asked heads tree_heads (stabiliser t v) = []
+asked heads tree_heads (stabiliser t v) = stab_asked (head_lines (stabiliser t v)) heads tree_heads t v

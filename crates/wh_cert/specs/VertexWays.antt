@@ -2,7 +2,7 @@
 use Rattle.std.specs.Prelude.{◌≡◌, ◌↔◌, ℕ, suc, ◌+◌, ◌<◌, ◌≤◌, Bool, List, ◌∷◌, length, take, drop, get_or, Option, Some, slice_get, Contains, IsTrue, MatchOption}
 use Rattle.std.specs.List.Sorted.{IsStrictlySortedBy}
 use Rattle.wh_words.specs.Tuples.{TupleData, tuple_length, tuple_cmp}
-use Rattle.wh_words.specs.Moves.{Move, IsIdentityCut}
+use Rattle.wh_words.specs.Moves.{Move, IsMove, IsIdentityCut}
 use Rattle.wh_words.specs.Action.{act, act_all}
 use Rattle.wh_composites.specs.Composing.{ComposesUpTo}
 use Rattle.wh_peak.specs.Relations.{IsTrivial}
@@ -24,11 +24,11 @@ pub record AreOffTree (p : PartsData) : Type 0 where
 
 -- A move, which is no identity cut, leads from a tuple to one of the list.
 abbrev pub IsStepIn : List TupleData → TupleData → Move → Type 0
-IsStepIn ts t m = ¬ (IsIdentityCut m.kind) × Contains ts (act t m)
+IsStepIn ts t m = IsMove m × ¬ (IsIdentityCut m.kind) × Contains ts (act t m)
 
 -- It leads to the tuple at a place.
 abbrev pub LeadsTo : List TupleData → TupleData → Move → ℕ → Type 0
-LeadsTo ts t m v = ¬ (IsIdentityCut m.kind) × (slice_get ts v ≡ Some (act t m))
+LeadsTo ts t m v = IsMove m × ¬ (IsIdentityCut m.kind) × (slice_get ts v ≡ Some (act t m))
 
 -- The places of the tuples on the way of moves from the tuple at a place, from this one on.
 pub record AreStops (ts : List TupleData) (at : ℕ) (ms : List Move) (stops : List ℕ) : Type 0 where

@@ -3,7 +3,7 @@ use Rattle.std.specs.Prelude.{◌≡◌, ℕ, zero, suc, ◌+◌, ◌<◌, ltb, 
 use Rattle.std.specs.List.{All}
 use Rattle.wh_data.specs.AnswerData.{PartsData}
 use Rattle.wh_words.specs.Tuples.{TupleData}
-use Rattle.wh_words.specs.Moves.{Move, IsIdentityCut}
+use Rattle.wh_words.specs.Moves.{Move, IsMove, IsIdentityCut}
 use Rattle.wh_words.specs.Action.{act}
 use Rattle.wh_level.specs.Trees.{Parents, HasWayBack}
 
@@ -40,6 +40,7 @@ pub record TellWaysBack (parents : Parents) (to : List ℕ) : Type 0 where
 pub record IsLed (ts : List TupleData) (from : ℕ) (via : Move) (t : TupleData) : Type 0 where
   pub tuple : TupleData
   pub starts : slice_get ts from ≡ Some tuple
+  pub valid : IsMove via
   pub moves : ¬ (IsIdentityCut via.kind)
   pub ends : act tuple via ≡ t
 

@@ -6,7 +6,7 @@ ghost use Rattle.wh_words.specs.Tuples.{TupleData};
 ghost use Rattle.wh_data.specs.AnswerData.{plains, side_of, verdict_of, parts_of, stab_verdict_of, answer_of, certificate_of};
 ghost use Rattle.wh_data.specs.AnswerData.StabVerdictData.{done};
 ghost use Rattle.wh_data.specs.AnswerData.AnswerData.{stabiliser};
-ghost use Rattle.wh_data.specs.Numberings.{IsNumbered, IsSideOfRank, IsVerdictOfRank, IsStabOfRank, IsAnswerOfOneRank, verdict_flows, stab_flows, flow_lines, answer_tree_lines};
+ghost use Rattle.wh_data.specs.Numberings.{IsNumbered, IsSideOfRank, IsVerdictOfRank, IsStabOfRank, IsAnswerOfOneRank, verdict_flows, stab_flows, flow_lines, tree_lines, answer_tree_lines};
 ghost use Rattle.wh_data.specs.Numberings as spec;
 ghost use Rattle.wh_cert.specs.declared.checked.Rule.TheVariants as rules;
 ghost use Rattle.wh_cert.specs.Demands.{Demand, rule_of, IsMet, fit_on_the_way, moves_carry, lengths_differ, lengths_agree, level_asked, trace_asked, flows_asked, side_asked, sides_asked, verdict_asked, stab_asked, asked};
@@ -15,10 +15,11 @@ ghost use Rattle.wh_cert.specs.Judged.{Judges};
 
 use crate::checked::{Checked, Rule};
 use crate::levels::judge_level;
+use crate::presentation::judge_parts;
 use crate::sides::{carried, judge_flows, judge_trace};
 use crate::stop::{Stop, ask};
 use std::alloc::Global;
-use wh_data::{Answer, Numbered, Side, Verdict};
+use wh_data::{Answer, Numbered, Parts, Side, StabVerdict, Verdict};
 use wh_moves::Move;
 use wh_words::{Letter, OutOfMemory, Rank, Tuple};
 
@@ -189,6 +190,51 @@ fn judge_verdict(
     }
 }
 
+/// Judges the side of a tuple and what presents its stabiliser, from a place on.
+fn judge_presented(
+    alloc: Global,
+    place: usize,
+    heads: &[(Letter, u32)],
+    tree_heads: &[u32],
+    tuple: &Tuple,
+    side: &Side,
+    parts: &Parts,
+) -> Result<(), Stop>
+    requires low { place ≤ 5 }
+    requires rank { IsStabOfRank tuple.now.plain.rank (done (side_of side.now) (parts_of parts.now)) }
+    requires heads { length heads.now ≡ tuple.now.plain.rank }
+    requires tree_heads { length tree_heads.now ≡ tree_lines (parts_of parts.now) }
+    ensures { Judges (stab_asked place heads.now tree_heads.now tuple.now.plain (done (side_of side.now) (parts_of parts.now))) result }
+{
+    judge_side(alloc, place, heads, tuple, side)?;
+    let after = place + side_lines(tuple.rank());
+    judge_parts(alloc, after, tree_heads, &side.end, parts)
+}
+
+/// Judges the lines after the tuple whose stabiliser is told, of which the first is at a place.
+fn judge_stab(
+    alloc: Global,
+    place: usize,
+    heads: &[(Letter, u32)],
+    tree_heads: &[u32],
+    tuple: &Tuple,
+    verdict: &StabVerdict,
+) -> Result<(), Stop>
+    requires low { place ≤ 5 }
+    requires verdict { IsStabOfRank tuple.now.plain.rank (stab_verdict_of verdict.now) }
+    requires heads { length heads.now ≡ flow_lines (stabiliser tuple.now.plain (stab_verdict_of verdict.now)) }
+    requires tree_heads { length tree_heads.now ≡ answer_tree_lines (stabiliser tuple.now.plain (stab_verdict_of verdict.now)) }
+    ensures { Judges (stab_asked place heads.now tree_heads.now tuple.now.plain (stab_verdict_of verdict.now)) result }
+{
+    match verdict {
+        StabVerdict::Done(side, parts) => {
+            judge_presented(alloc, place, heads, tree_heads, tuple, side, parts)
+        }
+        // No certificate has this verdict.
+        StabVerdict::Undecided(_) => Ok(()),
+    }
+}
+
 /// Judges the lines of an answer whose `flow` lines name these letters and values, and whose `tree` lines name vertices by
 /// these numbers.
 fn judge_answer(
@@ -212,7 +258,9 @@ fn judge_answer(
         } => judge_verdict(alloc, place, heads, first, second, verdict),
         // No certificate is one of these.
         Answer::Straighten { .. } => Ok(()),
-        Answer::Stabiliser { .. } => Ok(()),
+        Answer::Stabiliser { tuple, verdict } => {
+            judge_stab(alloc, place, heads, tree_heads, tuple, verdict)
+        }
     }
 }
 
@@ -224,11 +272,12 @@ fn number_at(lines: &[u32], place: usize) -> u32
     lines[place]
 }
 
-/// Judges a certificate, that is an answer of `reduce` or `decide` that was read from a text, by rules alone: `Valid`, or
-/// the first line that breaks a rule with the first rule that it breaks. Every move is made, every flow is tested, and
-/// it is tried whether a level move leads out of a level: of every tuple by swaps and an inversion, and by every set of
-/// letters of a tuple of each orbit under these at least. Nothing is taken from the search for the answer (Lyndon and
-/// Schupp, I.4; Roig, Ventura and Weil 2007).
+/// Judges a certificate, that is an answer of `reduce`, `decide` or `stabiliser` that was read from a text, by rules alone:
+/// `Valid`, or the first line that breaks a rule with the first rule that it breaks. Every move is made, every flow is
+/// tested, and it is tried whether a level move leads out of a level: of every tuple by swaps and an inversion, and by
+/// every set of letters of a tuple of each orbit under these at least. The edges off a tree are found anew, each relator
+/// is followed through the level, and its moves are composed. Nothing is taken from the search for the answer (Lyndon and
+/// Schupp, I.4; Roig, Ventura and Weil 2007; McCool 1975).
 pub fn check(alloc: Global, numbered: &Numbered) -> Result<Checked, OutOfMemory>
     requires { IsNumbered (certificate_of numbered.now) }
     ensures { IfOk result (Checks (certificate_of numbered.now)) }

@@ -128,7 +128,7 @@ fn off_tree(
 }
 
 /// Whether two edges have one start.
-fn is_same(start: &(usize, Move), other: &(usize, Move)) -> bool
+pub(crate) fn is_same(start: &(usize, Move), other: &(usize, Move)) -> bool
     ensures { IsTrue result ↔ (start.now ≡ other.now) }
 {
     start.0 == other.0 && start.1 == other.1

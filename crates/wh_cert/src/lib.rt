@@ -8,6 +8,8 @@ mod generators;
 mod images;
 pub mod laws;
 mod levels;
+mod presentation;
+mod relators;
 mod sides;
 mod stop;
 mod tree;

@@ -101,6 +101,8 @@ fn is_led(tuples: &[Tuple], from: usize, via: &Move, to: &Tuple, image: &mut Tup
     if from >= tuples.len() {
         return false;
     }
+    // The proof takes from this call that the move is one.
+    via.rank();
     if via.is_identity() {
         return false;
     }

@@ -52,6 +52,8 @@ fn next_place(vertices: &[Tuple], from: usize, m: &Move, image: &mut Tuple) -> O
     ensures place { MatchOption result (¬ (IsStepIn (plains vertices.now) (tuple_at (plains vertices.now) from) m.now)) (LeadsTo (plains vertices.now) (tuple_at (plains vertices.now) from) m.now) }
     ensures roomy { IsRoomy image.new }
 {
+    // The proof takes from this call that the move is one.
+    m.rank();
     if m.is_identity() {
         return None;
     }

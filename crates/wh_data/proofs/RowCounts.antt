@@ -8,13 +8,13 @@ use Rattle.wh_words.specs.Tuples.{TupleData}
 use Rattle.wh_words.specs.Moves.{Move}
 use Rattle.wh_fields.specs.StabiliserFields.{generator_row, relator_row}
 use Rattle.wh_fields.specs.FlowFields.{flow_rows}
-use Rattle.wh_data.specs.AnswerData.{SideData, VerdictData, PartsData, AnswerData}
-use Rattle.wh_data.specs.AnswerData.StabVerdictData.{done}
+use Rattle.wh_data.specs.AnswerData.{SideData, VerdictData, PartsData, StabVerdictData, AnswerData}
+use Rattle.wh_data.specs.AnswerData.StabVerdictData.{done, stopped}
 use Rattle.wh_data.specs.AnswerData.VerdictData.{yes, no_length, no_level, undecided}
 use Rattle.wh_data.specs.AnswerData.AnswerData.{reduce, decide, straighten, stabiliser}
 use Rattle.wh_data.specs.PresentationTexts.{tree_rows, generator_rows, relator_rows, presentation_rows}
 use Rattle.wh_data.specs.AnswerTexts.{side_rows, at_rows, level_rows, verdict_rows, stab_rows, done_row, head_rows, body_rows}
-use Rattle.wh_data.specs.Numberings.{IsSideOfRank, IsVerdictOfRank, side_lines, verdict_lines, stab_lines}
+use Rattle.wh_data.specs.Numberings.{IsSideOfRank, IsVerdictOfRank, IsStabOfRank, side_lines, verdict_lines, stab_lines}
 use Rattle.wh_data.specs.Laws.{CountsRows}
 
 flow_count : (n g : ℕ) (fs : List (List ℕ)) → length (flow_rows n g fs) ≡ length fs
@@ -56,17 +56,17 @@ presentation_count p =
       length-map p.relators (λ r. relator_row r.at r.moves r.word),
     )
 
--- where a side is of rank n
-pub stab_count : (n : ℕ) (s : SideData) (p : PartsData) → IsSideOfRank n s → length (stab_rows (done s p)) ≡ stab_lines n (done s p)
-stab_count n s p is =
+stab_count : (n : ℕ) (v : StabVerdictData) → IsStabOfRank n v → length (stab_rows v) ≡ stab_lines n v
+stab_count n (done s p) is =
     omega (
       arith,
       length-append (side_rows s ++ level_rows p.vertices) (presentation_rows p),
       length-append (side_rows s) (level_rows p.vertices),
-      side_count n s is,
+      side_count n s is.0,
       at_count p.vertices,
       presentation_count p,
     )
+stab_count n (stopped bound) is = absurd is
 
 -- ---- answers
 whole_count : (a : AnswerData) (k : ℕ) → length (body_rows a) ≡ k → length ((head_rows a ++ body_rows a) ++ done_row ∷ []) ≡ length (head_rows a) + k + 1
@@ -76,4 +76,4 @@ pub counts_rows : CountsRows
 counts_rows (reduce t s) is = whole_count (reduce t s) (side_lines t.rank) (side_count t.rank s is)
 counts_rows (decide s t v) is = whole_count (decide s t v) (verdict_lines s.rank v) (verdict_count s.rank v is.1)
 counts_rows (straighten t given ms end) is = absurd is
-counts_rows (stabiliser t v) is = absurd is
+counts_rows (stabiliser t v) is = whole_count (stabiliser t v) (stab_lines t.rank v) (stab_count t.rank v is)

@@ -1,7 +1,7 @@
 -- Which answers are certificates: their parts are of one rank, and none is too large.
 use Rattle.std.specs.Prelude.{◌≡◌, ◌≢◌, ◌↔◌, ℕ, ◌+◌, ◌<◌, ◌≤◌, List, [], ◌∷◌, ◌++◌, length, get_or, Option, Some, None, IfSome, slice_get}
 use Rattle.std.specs.List.{All}
-use Rattle.wh_words.specs.Limits.{most_rank, most_level_rank, most_level_tuples, most_level_edges, most_relators}
+use Rattle.wh_words.specs.Limits.{most_rank, most_level_rank, most_level_tuples, most_level_edges, most_relators, most_stabiliser_rank}
 use Rattle.wh_words.specs.Tuples.{TupleData, IsTuple}
 use Rattle.wh_words.specs.Moves.{Move}
 use Rattle.wh_fields.specs.FlowFields.{IsFlowOf, heads_from}
@@ -63,7 +63,7 @@ abbrev pub IsCertificate : AnswerData → Type 0
 IsCertificate (reduce t s) = IsTuple t × (1 ≤ t.rank) × (t.rank ≤ most_rank) × IsSideOf t.rank (length t.words) s
 IsCertificate (decide s t v) = IsTuple s × (1 ≤ s.rank) × (s.rank ≤ most_level_rank) × IsTupleOf s.rank (length s.words) t × IsVerdictOf s.rank (length s.words) v
 IsCertificate (straighten t given ms end) = ⊥
-IsCertificate (stabiliser t v) = ⊥
+IsCertificate (stabiliser t v) = IsTuple t × (1 ≤ t.rank) × (t.rank ≤ most_stabiliser_rank) × IsStabOf t.rank (length t.words) v
 
 abbrev pub verdict_heads : VerdictData → List (ℕ × ℕ)
 verdict_heads (yes ms) = []

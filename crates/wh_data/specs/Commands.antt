@@ -25,7 +25,7 @@ abbrev pub is_checked : Command → Bool
 is_checked commands.Reduce = true
 is_checked commands.Decide = true
 is_checked commands.Straighten = false
-is_checked commands.Stabiliser = false
+is_checked commands.Stabiliser = true
 
 -- The name is one of a command to come, whose answers aren't certificates.
 abbrev pub is_unchecked_name : List ℕ → Bool

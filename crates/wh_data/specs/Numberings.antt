@@ -1,5 +1,5 @@
 -- What is known of a certificate that was read: its parts fit together, and its lines are numbered.
-use Rattle.std.specs.Prelude.{◌≡◌, ℕ, ◌+◌, ◌*◌, ◌<◌, ◌≤◌, ◌↔◌, length, is_some, IfSome, Some, None, slice_get}
+use Rattle.std.specs.Prelude.{◌≡◌, ℕ, ◌+◌, ◌*◌, ◌≤◌, ◌↔◌, length, is_some, IfSome, Some, None, slice_get}
 use Rattle.std.specs.List.{All, count_by}
 use Rattle.wh_data.specs.RootPlaces.{root_place}
 use Rattle.wh_data.specs.AnswerTexts.{head_rows}
@@ -47,7 +47,7 @@ abbrev pub IsAnswerOfOneRank : AnswerData → Type 0
 IsAnswerOfOneRank (reduce t s) = IsSideOfRank t.rank s
 IsAnswerOfOneRank (decide s t v) = (t.rank ≡ s.rank) × IsVerdictOfRank s.rank v
 IsAnswerOfOneRank (straighten t given ms end) = ⊥
-IsAnswerOfOneRank (stabiliser t v) = ⊥
+IsAnswerOfOneRank (stabiliser t v) = IsStabOfRank t.rank v
 
 -- ---- lines
 -- How many lines a side of rank n has.

@@ -53,7 +53,7 @@ impl Command {
             Command::Reduce => true,
             Command::Decide => true,
             Command::Straighten => false,
-            Command::Stabiliser => false,
+            Command::Stabiliser => true,
         }
     }
 }

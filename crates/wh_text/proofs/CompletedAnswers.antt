@@ -107,7 +107,7 @@ completes_decided n some h =
     (λ t _ _. completes_then (verdict_after n (length s.words)) (λ v. Ok (record { answer = decide s t v.0.verdict; heads = v.0.heads; tree_heads = [] }, v.1)) (IsVerdictRead n (length s.words)) (λ v. Nothing (record { answer = decide s t v.verdict; heads = v.heads; tree_heads = [] }))
     (exact_verdict n (length s.words) h) (completes_verdict n (length s.words) some h few) (λ v _ _. completes_none (record { answer = decide s t v.verdict; heads = v.heads; tree_heads = [] }))))
 
-pub completes_stabilised : (n : ℕ) → 1 ≤ n → n ≤ most_rank → Completes (stabilised_after n) (Stabilised n)
+completes_stabilised : (n : ℕ) → 1 ≤ n → n ≤ most_rank → Completes (stabilised_after n) (Stabilised n)
 unfolding stabilised_after
 completes_stabilised n some h =
     completes_then (tuple_after (codes "tuple") n) (λ t. with_stab n t.0 t.1) (OneRow (IsTupleRow (codes "tuple") n)) (Stabilises n) (exact_tuple (codes "tuple") n h) (completes_tuple (codes "tuple") n (written_shown 116 (codes "uple") refl))
@@ -117,7 +117,7 @@ completes_told : (c : Command) (n : ℕ) → is_checked c ≡ true → 1 ≤ n �
 completes_told commands.Reduce n checked some h = completes_reduced n some h
 completes_told commands.Decide n checked some h = completes_decided n some h
 completes_told commands.Straighten n checked some h = absurd (cc)
-completes_told commands.Stabiliser n checked some h = absurd (cc)
+completes_told commands.Stabiliser n checked some h = completes_stabilised n some h
 
 -- ---- the heading and the rank
 completes_heading : Completes heading_after (OneRow HeadingIs)

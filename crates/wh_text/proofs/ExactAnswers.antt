@@ -262,7 +262,7 @@ abbrev pub Told : Command → ℕ → List Row → AnswerRead → Type 0
 Told commands.Reduce n = Reduced n
 Told commands.Decide n = Decided n
 Told commands.Straighten n = Untold
-Told commands.Stabiliser n = Untold
+Told commands.Stabiliser n = Stabilised n
 
 exact_reduced : (n : ℕ) → n ≤ 26 → Exact (reduced_after n) (Reduced n)
 unfolding reduced_after
@@ -287,7 +287,7 @@ exact_decided n h =
     (λ t. exact_then (verdict_after n (length s.words)) (λ v. Ok (record { answer = decide s t v.0.verdict; heads = v.0.heads; tree_heads = [] }, v.1)) (IsVerdictRead n (length s.words)) (λ v. Nothing (record { answer = decide s t v.verdict; heads = v.heads; tree_heads = [] }))
     (exact_verdict n (length s.words) h) (λ v. exact_none (record { answer = decide s t v.verdict; heads = v.heads; tree_heads = [] }))))
 
-pub exact_stabilised : (n : ℕ) → n ≤ 26 → Exact (stabilised_after n) (Stabilised n)
+exact_stabilised : (n : ℕ) → n ≤ 26 → Exact (stabilised_after n) (Stabilised n)
 unfolding stabilised_after
 exact_stabilised n h = exact_then (tuple_after (codes "tuple") n) (λ t. with_stab n t.0 t.1) (OneRow (IsTupleRow (codes "tuple") n)) (Stabilises n) (exact_tuple (codes "tuple") n h) (λ t. exact_stab n t h)
 
@@ -299,4 +299,4 @@ pub exact_told : (c : Command) (n : ℕ) → n ≤ 26 → Exact (answer_with c n
 exact_told commands.Reduce n h = exact_reduced n h
 exact_told commands.Decide n h = exact_decided n h
 exact_told commands.Straighten n h = exact_untold
-exact_told commands.Stabiliser n h = exact_untold
+exact_told commands.Stabiliser n h = exact_stabilised n h

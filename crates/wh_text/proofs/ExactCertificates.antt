@@ -22,14 +22,14 @@ use Rattle.wh_data.specs.declared.command.Command.{Command}
 use Rattle.wh_data.specs.declared.command.Command.TheVariants as commands
 use Rattle.wh_data.specs.Limits.{most_answer_bytes}
 use Rattle.wh_text.specs.RankLines.{greatest_rank, rank_at, no_rank, rank_after}
-use Rattle.wh_data.specs.AnswerData.{AnswerData, CertificateData, StabVerdictData}
+use Rattle.wh_data.specs.AnswerData.{AnswerData, CertificateData}
 use Rattle.wh_data.specs.AnswerData.StabVerdictData.{done, stopped}
 use Rattle.wh_data.specs.AnswerData.AnswerData.{reduce, decide, straighten, stabiliser}
 use Rattle.wh_data.specs.Commands.{command_name, is_checked, answer_version, heading_row}
 use Rattle.wh_data.specs.AnswerTexts.{verdict_row, done_row}
 use Rattle.wh_text.proofs.CommandNames.{heading_told, heading_back}
 use Rattle.wh_text.specs.Certificates.{in_answer, AnswerRead, answer_with, heading_in, heading_after, done_after, with_end, answer_after, certificate}
-use Rattle.wh_text.specs.CertificateTexts.{IsTupleRow, IsLikeRow, IsSideText, IsVerdictText, IsStabText, IsStabAnswerText, IsAnswerText, IsCertificateText, ReadsCertificates}
+use Rattle.wh_text.specs.CertificateTexts.{IsTupleRow, IsLikeRow, IsSideText, IsVerdictText, IsStabText, IsAnswerText, IsCertificateText, ReadsCertificates}
 use Rattle.wh_text.proofs.RankLaws.{rank_within, rank_is, rank_back}
 use Rattle.wh_text.proofs.ExactLines.{same_row, alone}
 use Rattle.wh_text.proofs.ExactParts.{Stabilises, stab_there}
@@ -117,11 +117,7 @@ decided_there n rows x least most s =
     (ap (λ (t : TupleData). t.rank) (sym h.one.cyclic))
     (h.head, g.head, v.one.after, parts, least, most, h.one, g.one, v.one.told, refl))
 
--- What the lines of a stabiliser are told.
-abbrev IsStabilisedText : List Row → AnswerRead → Type 0
-IsStabilisedText rows x = (t : TupleData) × (v : StabVerdictData) × (x.answer ≡ stabiliser t v) × IsStabAnswerText rows t v x.heads x.tree_heads
-
-pub stabilised_there : (n : ℕ) (rows : List Row) (x : AnswerRead) → 1 ≤ n → n ≤ most_stabiliser_rank → Stabilised n rows x → IsStabilisedText (heading_row commands.Stabiliser ∷ number_row (codes "rank") n ∷ rows ++ done_row ∷ []) x
+stabilised_there : (n : ℕ) (rows : List Row) (x : AnswerRead) → 1 ≤ n → n ≤ most_stabiliser_rank → Stabilised n rows x → IsAnswerText (heading_row commands.Stabiliser ∷ number_row (codes "rank") n ∷ rows ++ done_row ∷ []) x.answer x.heads x.tree_heads
 stabilised_there n rows x least most s =
     let h = one_then (IsTupleRow (codes "tuple") n) (Stabilises n) rows x s in
     let v = h.two in
@@ -132,20 +128,16 @@ stabilised_there n rows x least most s =
     let all : List Row = heading_row commands.Stabiliser ∷ number_row (codes "rank") n ∷ rows ++ done_row ∷ [] in
     let parts : all ≡ heading_row commands.Stabiliser ∷ number_row (codes "rank") n ∷ h.head ∷ h.later ++ done_row ∷ [] = ap (λ rs. heading_row commands.Stabiliser ∷ number_row (codes "rank") n ∷ rs ++ done_row ∷ []) h.parts in
     let told = stab_there n h.x h.later v.first g.first w.first v.x g.x w.x later v.one g.one w.one in
-    subst (IsStabilisedText all) w.two.same (
-      h.x,
-      done v.x.side w.x.parts,
-      refl,
-      subst (λ (m : ℕ). (tuple_row : Row) × (after : List Row) × (all ≡ heading_row commands.Stabiliser ∷ number_row (codes "rank") m ∷ tuple_row ∷ after ++ done_row ∷ []) × (1 ≤ m) × (m ≤ most_stabiliser_rank) × IsTupleRow (codes "tuple") m tuple_row h.x × IsStabText m (length h.x.words) after (done v.x.side w.x.parts) v.x.heads w.x.heads)
-          (ap (λ (t : TupleData). t.rank) (sym h.one.cyclic))
-          (h.head, h.later, parts, least, most, h.one, told),
-    )
+    subst (λ (y : AnswerRead). IsAnswerText all y.answer y.heads y.tree_heads) w.two.same
+    (subst (λ (m : ℕ). (tuple_row : Row) × (after : List Row) × (all ≡ heading_row commands.Stabiliser ∷ number_row (codes "rank") m ∷ tuple_row ∷ after ++ done_row ∷ []) × (1 ≤ m) × (m ≤ most_stabiliser_rank) × IsTupleRow (codes "tuple") m tuple_row h.x × IsStabText m (length h.x.words) after (done v.x.side w.x.parts) v.x.heads w.x.heads)
+    (ap (λ (t : TupleData). t.rank) (sym h.one.cyclic))
+    (h.head, h.later, parts, least, most, h.one, told))
 
 told_there : (c : Command) (n : ℕ) (rows : List Row) (x : AnswerRead) → 1 ≤ n → n ≤ greatest_rank c → Told c n rows x → IsAnswerText (heading_row c ∷ number_row (codes "rank") n ∷ rows ++ done_row ∷ []) x.answer x.heads x.tree_heads
 told_there commands.Reduce n rows x least most s = reduced_there n rows x least most s
 told_there commands.Decide n rows x least most s = decided_there n rows x least most s
 told_there commands.Straighten n rows x least most s = absurd s
-told_there commands.Stabiliser n rows x least most s = absurd s
+told_there commands.Stabiliser n rows x least most s = stabilised_there n rows x least most s
 
 pub body_there : (rows : List Row) (x : AnswerRead) → Body rows x → IsAnswerText (rows ++ done_row ∷ []) x.answer x.heads x.tree_heads
 body_there rows x s =
@@ -213,16 +205,11 @@ body_again rows (decide s t v) heads trees is = (
   }),
 )
 body_again rows (straighten t given ms u) heads trees is = absurd is
-body_again rows (stabiliser t v) heads trees is = absurd is
-
-pub stabilised_again : (rows : List Row) (t : TupleData) (v : StabVerdictData) (heads : List (ℕ × ℕ)) (trees : List ℕ) → IsStabAnswerText rows t v heads trees →
-    (rs : List Row) × (rows ≡ heading_row commands.Stabiliser ∷ number_row (codes "rank") t.rank ∷ rs ++ done_row ∷ []) × Stabilised t.rank rs (record { answer = stabiliser t v; heads = heads; tree_heads = trees })
-stabilised_again rows t (stopped bound) heads trees is = absurd is.6
-stabilised_again rows t (done s p) heads trees is =
+body_again rows (stabiliser t (done s p)) heads trees is =
     let after = is.6 in (
-      is.0 ∷ is.1,
+      heading_row commands.Stabiliser ∷ number_row (codes "rank") t.rank ∷ is.0 ∷ is.1,
       is.2,
-      record {
+      headed_back commands.Stabiliser t.rank (is.0 ∷ is.1) (record { answer = stabiliser t (done s p); heads = heads; tree_heads = trees }) refl is.3 is.4 (record {
         x = t;
         first = is.0 ∷ [];
         second = is.1;
@@ -250,8 +237,9 @@ stabilised_again rows t (done s p) heads trees is =
             };
           };
         };
-      },
+      }),
     )
+body_again rows (stabiliser t (stopped bound)) heads trees is = absurd is.6
 
 -- ---- the last line
 pub no_length_fields : (fs : List Field) → length fs ≡ 0 → map (λ f. f.bytes) fs ≡ []

@@ -209,7 +209,7 @@ local_stab l n t =
     (λ vs. local_then l (parts_after n s.side.end vs) (λ ps. Ok (record { answer = stabiliser t (done s.side ps.0.parts); heads = s.heads; tree_heads = ps.0.heads }, ps.1)) (local_parts l n s.side.end vs)
     (λ ps. local_none l (record { answer = stabiliser t (done s.side ps.parts); heads = s.heads; tree_heads = ps.heads }))))))
 
-pub local_stabilised : (l n : ℕ) → Local l (stabilised_after n)
+local_stabilised : (l n : ℕ) → Local l (stabilised_after n)
 unfolding stabilised_after
 local_stabilised l n = local_then l (tuple_after (codes "tuple") n) (λ t. with_stab n t.0 t.1) (local_tuple l (codes "tuple") n) (λ t. local_stab l n t)
 
@@ -221,7 +221,7 @@ local_told : (l : ℕ) (c : Command) (n : ℕ) → Local l (answer_with c n)
 local_told l commands.Reduce n = local_reduced l n
 local_told l commands.Decide n = local_decided l n
 local_told l commands.Straighten n = local_refused l
-local_told l commands.Stabiliser n = local_refused l
+local_told l commands.Stabiliser n = local_stabilised l n
 
 -- ---- the heading and the rank
 pub heading_in_line : (m l : ℕ) (fs : List Field) → heading_in m fs ≡ Err (errors.BadLine l) → m ≡ l

@@ -21,7 +21,7 @@ use Rattle.wh_fields.specs.Laws.{AreMoveFields}
 use Rattle.wh_text.specs.RankLines.{greatest_rank, rank_at, no_rank, rank_after}
 use Rattle.wh_lines.specs.KeptLines.{Kept}
 use Rattle.wh_lines.specs.LineReadings.{Reading, start, line_after, end_after, times}
-use Rattle.wh_data.specs.AnswerData.{PartsData, CertificateData, StabVerdictData}
+use Rattle.wh_data.specs.AnswerData.{PartsData, CertificateData}
 use Rattle.wh_data.specs.AnswerData.VerdictData.{yes, no_length, no_level}
 use Rattle.wh_data.specs.AnswerData.StabVerdictData.{done}
 use Rattle.wh_data.specs.AnswerData.AnswerData.{reduce, decide, stabiliser}
@@ -30,7 +30,7 @@ use Rattle.wh_text.specs.Certificates.{tuple_after, like_of, like_after, moves_a
 use Rattle.wh_words.specs.Limits.{most_level_rank, most_level_tuples, most_level_edges, most_relators, most_stabiliser_rank}
 use Rattle.wh_data.specs.Limits.{most_answer_bytes}
 use Rattle.wh_text.specs.Certificates.VerdictWord.{a_yes, a_no_length, a_no_level}
-use Rattle.wh_data.specs.Numberings.{IsSideOfRank, IsVerdictOfRank, ArePartsOfRank, IsAnswerOfOneRank, side_lines, verdict_lines, tree_lines, answer_lines, verdict_flows, flow_lines, answer_tree_lines, IsNumbered, IsStabOfRank, stab_flows}
+use Rattle.wh_data.specs.Numberings.{IsSideOfRank, IsVerdictOfRank, ArePartsOfRank, IsAnswerOfOneRank, side_lines, verdict_lines, tree_lines, answer_lines, verdict_flows, flow_lines, answer_tree_lines, IsNumbered}
 use Rattle.wh_lines.proofs.Equations.{bind_ok, ok_is, ok_same, unless_ok, if_ok, refused_ok}
 use Rattle.wh_text.proofs.RankLaws.{rank_is}
 use Rattle.wh_fields.proofs.TupleLaws.{tuple_made}
@@ -328,11 +328,7 @@ decided_took n p r small e =
 abbrev stab_read : TupleData → SideRead → PartsRead → AnswerRead
 stab_read t s ps = record { answer = stabiliser t (done s.side ps.parts); heads = s.heads; tree_heads = ps.heads }
 
--- What is known of a stabiliser that was read.
-abbrev IsStabRead : AnswerRead → Type 0
-IsStabRead a = (t : TupleData) × (v : StabVerdictData) × (a.answer ≡ stabiliser t v) × IsStabOfRank t.rank v × (length a.heads ≡ stab_flows t.rank v) × (length a.tree_heads ≡ answer_tree_lines (stabiliser t v))
-
-pub stabilised_took : (n : ℕ) (p : Reading) (r : AnswerRead × Reading) → n ≤ most_stabiliser_rank → stabilised_after n p ≡ Ok r → IsStabRead r.0
+stabilised_took : (n : ℕ) (p : Reading) (r : AnswerRead × Reading) → n ≤ most_stabiliser_rank → stabilised_after n p ≡ Ok r → TookAnswer p r
 unfolding stabilised_after
 stabilised_took n p r small e =
     let a = bind_ok (tuple_after (codes "tuple") n p) (λ t. with_stab n t.0 t.1) r e in
@@ -346,20 +342,18 @@ stabilised_took n p r small e =
     let side = ended_took n count b.0.0 b.0.1 c.0 trace.told c.1 in
     let level = level_took n count c.0.1 d.0 d.1 in
     let parts = parts_took n c.0.0.side.end d.0.0 d.0.1 f.0 small level.told f.1 in
-    ok_same (λ (x : AnswerRead × Reading). IsStabRead x.0) (stab_read a.0.0 c.0.0 f.0.0, f.0.1) r f.2 (
-      a.0.0,
-      done c.0.0.side f.0.0.parts,
-      refl,
-      subst (λ (k : ℕ). IsSideOfRank k c.0.0.side × ArePartsOfRank k c.0.0.side.end f.0.0.parts) (sym tuple.told) (side.told.0, parts.told.parts),
-      omega (arith, side.told.1, tuple.told),
-      parts.told.heads,
-    )
+    ok_same (TookAnswer p) (stab_read a.0.0 c.0.0 f.0.0, f.0.1) r f.2 (record {
+      answer = subst (λ (k : ℕ). IsSideOfRank k c.0.0.side × ArePartsOfRank k c.0.0.side.end f.0.0.parts) (sym tuple.told) (side.told.0, parts.told.parts);
+      heads = omega (arith, side.told.1, tuple.told);
+      tree_heads = parts.told.heads;
+      lines = omega (arith, tuple.told, tuple.lines, trace.lines, side.lines, level.lines, parts.lines, parts.told.many);
+    })
 
 answer_with_took : (command : Command) (n : ℕ) (p : Reading) (r : AnswerRead × Reading) → n ≤ greatest_rank command → answer_with command n p ≡ Ok r → TookAnswer p r
 answer_with_took commands.Reduce n p r small e = reduced_took n p r e
 answer_with_took commands.Decide n p r small e = decided_took n p r small e
 answer_with_took commands.Straighten n p r small e = absurd (cc)
-answer_with_took commands.Stabiliser n p r small e = absurd (cc)
+answer_with_took commands.Stabiliser n p r small e = stabilised_took n p r small e
 
 -- ---- the text
 heading_took : (p : Reading) (r : Command × Reading) → heading_after p ≡ Ok r → Took (λ _. Unit {0}) 1 p r

@@ -89,7 +89,7 @@ decided_read s t v h i j k =
 abbrev stab_told : TupleData → SideData → PartsData → AnswerRead
 stab_told t s p = record { answer = stabiliser t (done s p); heads = heads_from 0 s.flows; tree_heads = tree_heads_from 0 p.tree }
 
-pub stabilised_read : (t : TupleData) (s : SideData) (p : PartsData) → t.rank ≤ 26 → IsTuple t → IsSideOf t.rank (length t.words) s → ArePartsOf t.rank (length t.words) s.end p →
+stabilised_read : (t : TupleData) (s : SideData) (p : PartsData) → t.rank ≤ 26 → IsTuple t → IsSideOf t.rank (length t.words) s → ArePartsOf t.rank (length t.words) s.end p →
     ReadsRows (stabilised_after t.rank) (stab_told t s p) (words_row (codes "tuple") t.words ∷ stab_rows (done s p))
 unfolding stabilised_after
 stabilised_read t s p h i j k =
@@ -158,4 +158,7 @@ answer_read (decide s t v) h =
     let few : s.rank ≤ 26 = omega (arith, h.2) in
     all_read commands.Decide s.rank (record { answer = decide s t v; heads = verdict_heads v; tree_heads = [] }) (words_row (codes "first") s.words ∷ words_row (codes "second") t.words ∷ verdict_row v ∷ verdict_rows v) refl h.1 h.2 (decided_read s t v few h.0 h.3 h.4)
 answer_read (straighten t given ms u) h = absurd h
-answer_read (stabiliser t v) h = absurd h
+answer_read (stabiliser t (done s p)) h =
+    let few : t.rank ≤ 26 = omega (arith, h.2) in
+    all_read commands.Stabiliser t.rank (stab_told t s p) (words_row (codes "tuple") t.words ∷ stab_rows (done s p)) refl h.1 h.2 (stabilised_read t s p few h.0 h.3.0 h.3.1)
+answer_read (stabiliser t (stopped bound)) h = absurd h.3

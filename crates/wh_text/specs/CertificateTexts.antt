@@ -150,7 +150,7 @@ IsAnswerText rows (decide s t v) heads tree_heads =
     × IsTupleRow (codes "first") s.rank first_row s × IsLikeRow (codes "second") s.rank (length s.words) second_row t
     × IsVerdictText s.rank (length s.words) after v heads × (tree_heads ≡ [])
 IsAnswerText rows (straighten t given ms end) heads tree_heads = ⊥
-IsAnswerText rows (stabiliser t v) heads tree_heads = ⊥
+IsAnswerText rows (stabiliser t v) heads tree_heads = IsStabAnswerText rows t v heads tree_heads
 
 -- The text is a certificate: no byte of it is bad, its lines that aren't skipped are these rows, whatever spaces stand between their fields, and its numbers are those of these lines.
 pub record IsCertificateText (bytes : List ℕ) (c : CertificateData) : Type 0 where

@@ -1,4 +1,4 @@
--- The text of an answer that can be checked, of `reduce` or `decide`, and the first refusal of a text that isn't one.
+-- The text of an answer that can be checked, of `reduce`, `decide` or `stabiliser`, and the first refusal of a text that isn't one.
 use Rattle.std.specs.Prelude.{ℕ, ◌-◌, ◌==◌, leb, ltb, ◌&&◌, ◌||◌, Bool, false, cond, List, [], ◌∷◌, ◌++◌, length, map, take, drop, Option, Some, None, is_some, Result, Ok, Err, codes, decimal}
 use Rattle.wh_data.specs.Limits.{most_answer_bytes}
 use Rattle.wh_words.specs.Limits.{most_level_tuples, most_level_edges, most_relators}
@@ -20,7 +20,7 @@ use Rattle.wh_data.specs.Commands.{command_named, is_checked, is_unchecked_name,
 use Rattle.wh_text.specs.RankLines.{rank_after}
 use Rattle.wh_data.specs.declared.answer.Loop.{Loop}
 use Rattle.wh_data.specs.RootPlaces.{root_place}
-use Rattle.wh_data.specs.AnswerData.{SideData, VerdictData, PartsData, StabVerdictData, AnswerData, CertificateData}
+use Rattle.wh_data.specs.AnswerData.{SideData, VerdictData, PartsData, AnswerData, CertificateData}
 use Rattle.wh_data.specs.AnswerData.VerdictData.{yes, no_length, no_level}
 use Rattle.wh_data.specs.AnswerData.StabVerdictData.{done}
 use Rattle.wh_data.specs.AnswerData.AnswerData.{reduce, decide, stabiliser}
@@ -328,7 +328,7 @@ abbrev pub answer_with : Command → ℕ → Reading → Result (AnswerRead × R
 answer_with commands.Reduce n p = reduced_after n p
 answer_with commands.Decide n p = decided_after n p
 answer_with commands.Straighten n p = Err (errors.NoCertificate 1)
-answer_with commands.Stabiliser n p = Err (errors.NoCertificate 1)
+answer_with commands.Stabiliser n p = stabilised_after n p
 
 -- The command of a name in line l. Answers of other commands are no certificates.
 abbrev pub checked_command : ℕ → List ℕ → Option Command → Result Command ReadError

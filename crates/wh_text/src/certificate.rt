@@ -232,7 +232,7 @@ fn with_stab(
     }
 }
 
-/// The answer of `stabiliser` that the next lines tell. No heading of one is read yet, as `check` doesn't judge it.
+/// The answer of `stabiliser` that the next lines tell.
 #[tactic(auto, unfolding(crate::specs::Certificates::stabilised_after))]
 fn stabilised_after(alloc: Global, rank: Rank, reader: &mut Reader) -> Result<ReadAnswer, ReadError>
     ensures { Reads (λ a. a) result reader.new (spec.stabilised_after rank reader.old) }
@@ -254,7 +254,7 @@ fn answer_with(
         Command::Reduce => reduced_after(alloc, rank, reader),
         Command::Decide => decided_after(alloc, rank, reader),
         Command::Straighten => Err(ReadError::NoCertificate { line: 1 }),
-        Command::Stabiliser => Err(ReadError::NoCertificate { line: 1 }),
+        Command::Stabiliser => stabilised_after(alloc, rank, reader),
     }
 }
 
@@ -294,13 +294,13 @@ fn answer_after(alloc: Global, reader: &mut Reader) -> Result<ReadAnswer, ReadEr
     with_end(answer, reader)
 }
 
-/// The answer of `reduce` or `decide` that a text tells, whoever wrote it, with the numbers of its lines. Lines that
-/// begin with `#` or are blank are skipped, and words needn't be reduced. A refusal is the first that is met: the size
-/// of the text comes first, at most 67,108,864 bytes, and then its lines in order, where the leftmost bad byte of a
-/// line comes first. LevelRank comes at the rank line of an answer of `decide`, where the rank is 7 to 26.
-/// NoCertificate comes at the heading of another command and at an undecided verdict. BadLine comes at any other line
-/// that doesn't continue an answer, or at the place past the end. A refusal leaves nothing. The time is linear in the
-/// bytes. OutOfMemory comes where there is no memory for what is read.
+/// The answer of `reduce`, `decide` or `stabiliser` that a text tells, whoever wrote it, with the numbers of its lines.
+/// Lines that begin with `#` or are blank are skipped, and words needn't be reduced. A refusal is the first that is met:
+/// the size of the text comes first, at most 67,108,864 bytes, and then its lines in order, where the leftmost bad byte
+/// of a line comes first. LevelRank comes at the rank line of an answer of `decide`, where the rank is 7 to 26, and of
+/// `stabiliser`, where it is 5 to 26. NoCertificate comes at the heading of another command and at an undecided verdict.
+/// BadLine comes at any other line that doesn't continue an answer, or at the place past the end. A refusal leaves
+/// nothing. The time is linear in the bytes. OutOfMemory comes where there is no memory for what is read.
 #[tactic(auto, unfolding(crate::specs::Certificates::certificate))]
 pub fn read_answer(alloc: Global, bytes: &[u8]) -> Result<Numbered, ReadError>
     ensures read { IfOk result (λ n. certificate bytes.now ≡ Ok (certificate_of n)) }

@@ -14,7 +14,7 @@ use Rattle.wh_data.specs.Commands.{is_checked}
 use Rattle.wh_data.specs.declared.answer.Answer as answers
 use Rattle.wh_data.specs.declared.answer.Answer.TheVariants.{Reduce, Decide, Straighten, Stabiliser}
 use Rattle.wh_data.specs.declared.answer.Verdict.TheVariants as verdicts
-use Rattle.wh_data.specs.declared.answer.StabVerdict.{StabVerdict}
+use Rattle.wh_data.specs.declared.answer.StabVerdict.TheVariants as stabs
 use Rattle.wh_lines.specs.Numbers.{number}
 use Rattle.wh_data.specs.ProblemData.{ProblemData}
 use Rattle.wh_data.specs.ProblemData.ProblemData.{reduce, decide, straighten, stabiliser}
@@ -79,16 +79,6 @@ not_straightened limit commands.Straighten (straighten t list) u given ms end c 
 not_straightened limit commands.Stabiliser (straighten t list) u given ms end c o is = o
 not_straightened limit command (stabiliser t) u given ms end c o is = is
 
--- nor is a stabiliser
-not_stabilised : (limit : ℕ) (command : Command) (p : ProblemData) (u : Tuple) (v : StabVerdict) → is_checked command ≡ true → IsOf command p → Answers limit p (Stabiliser u v) → ⊥
-not_stabilised limit command (reduce t) u v c o is = is
-not_stabilised limit command (decide s t) u v c o is = is
-not_stabilised limit command (straighten t list) u v c o is = is
-not_stabilised limit commands.Reduce (stabiliser t) u v c o is = o
-not_stabilised limit commands.Decide (stabiliser t) u v c o is = o
-not_stabilised limit commands.Straighten (stabiliser t) u v c o is = o
-not_stabilised limit commands.Stabiliser (stabiliser t) u v c o is = absurd (cc)
-
 decided_by : (limit : ℕ) (command : Command) (p : ProblemData) (a : answers.Answer) → is_checked command ≡ true → IsOf command p → Answers limit p a → (answer_status a ≡ Done) ⊎ (answer_status a ≡ No) → IsDecided (answer_of a)
 decided_by limit command p (Reduce t s) c o is h = tt
 decided_by limit command p (Decide s t (verdicts.Yes ms)) c o is h = tt
@@ -97,7 +87,9 @@ decided_by limit command p (Decide s t (verdicts.NoLevel a b ts)) c o is h = tt
 decided_by limit command p (Decide s t (verdicts.Undecided bound)) c o is (inl e) = absurd (cc)
 decided_by limit command p (Decide s t (verdicts.Undecided bound)) c o is (inr e) = absurd (cc)
 decided_by limit command p (Straighten t given ms end) c o is h = absurd (not_straightened limit command p t given ms end c o is)
-decided_by limit command p (Stabiliser t v) c o is h = absurd (not_stabilised limit command p t v c o is)
+decided_by limit command p (Stabiliser t (stabs.Done s q)) c o is h = tt
+decided_by limit command p (Stabiliser t (stabs.Undecided bound)) c o is (inl e) = absurd (cc)
+decided_by limit command p (Stabiliser t (stabs.Undecided bound)) c o is (inr e) = absurd (cc)
 
 -- ---- its text is checked
 valid_again : (limit : ℕ) (command : Command) (bytes : List ℕ) (p : ProblemData) (a : answers.Answer) → limit ≤ most_level_tuples → problem command bytes ≡ Ok p → Answers limit p a → IsDecided (answer_of a) →

@@ -8,6 +8,7 @@ use Rattle.wh_lines.specs.Rows.{Row}
 use Rattle.wh_fields.proofs.MoveLaws.{spelled_kind}
 use Rattle.wh_data.specs.AnswerData.{SideData, VerdictData, AnswerData, CertificateData}
 use Rattle.wh_data.specs.AnswerData.VerdictData.{yes, no_length, no_level, undecided}
+use Rattle.wh_data.specs.AnswerData.StabVerdictData.{done, stopped}
 use Rattle.wh_data.specs.AnswerData.AnswerData.{reduce, decide, straighten, stabiliser}
 use Rattle.wh_fields.specs.Laws.{AreMoveFields}
 use Rattle.wh_text.specs.Certificates.{certificate}
@@ -44,7 +45,8 @@ answer_moves : (rows : List Row) (a : AnswerData) (heads : List (ℕ × ℕ)) (t
 answer_moves rows (reduce t s) heads tree_heads told = side_moves t.rank (length t.words) told.1 s heads told.4 told.6
 answer_moves rows (decide s t v) heads tree_heads told = verdict_moves s.rank (length s.words) told.2 v heads (omega (arith, told.5)) told.8
 answer_moves rows (straighten t given ms end) heads tree_heads told = absurd told
-answer_moves rows (stabiliser t v) heads tree_heads told = absurd told
+answer_moves rows (stabiliser t (done s p)) heads tree_heads told = side_moves t.rank (length t.words) told.6.0 s heads (omega (arith, told.4)) told.6.4
+answer_moves rows (stabiliser t (stopped bound)) heads tree_heads told = absurd told.6
 
 pub certificate_moves : (bytes : List ℕ) (c : CertificateData) → certificate bytes ≡ Ok c → HasMoves c.answer
 certificate_moves bytes c e = let text = ((reads_certificates bytes c).0 e).1 in answer_moves text.rows c.answer c.flow_heads c.tree_heads text.told

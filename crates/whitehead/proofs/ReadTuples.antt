@@ -2,6 +2,7 @@
 use Rattle.std.proofs.Common.{◌≡◌, ℕ, ◌≤◌, ◌==◌, ltb, cond, List, [], ◌++◌, length, sym, ap, subst, arith, Result, Ok, Err}
 use Rattle.std.specs.Prelude.{codes}
 use Rattle.wh_words.specs.Tuples.{TupleData, IsTuple}
+use Rattle.wh_words.specs.Moves.{Move}
 use Rattle.wh_words.proofs.StoredWords.{IsTuple-of}
 use Rattle.wh_data.specs.declared.command.Command.{Command}
 use Rattle.wh_data.specs.declared.command.Command.TheVariants as commands
@@ -15,8 +16,9 @@ use Rattle.wh_fields.specs.TupleFields.{tuple_at}
 use Rattle.wh_text.specs.RankLines.{greatest_rank, rank_at, no_rank, rank_after}
 use Rattle.wh_data.specs.AnswerData.{CertificateData}
 use Rattle.wh_data.specs.AnswerData.VerdictData.{yes, no_length, no_level}
-use Rattle.wh_data.specs.AnswerData.AnswerData.{reduce, decide}
-use Rattle.wh_text.specs.Certificates.{in_answer, tuple_after, like_of, like_after, moves_after, flow_after, SideRead, side_with, side_after, level_after, VerdictWord, VerdictRead, sides_after, verdict_in, verdict_with, verdict_after, AnswerRead, reduced_after, decided_after, answer_with, heading_after, done_after, with_end, answer_after, certificate}
+use Rattle.wh_data.specs.AnswerData.StabVerdictData.{done}
+use Rattle.wh_data.specs.AnswerData.AnswerData.{reduce, decide, stabiliser}
+use Rattle.wh_text.specs.Certificates.{in_answer, tuple_after, like_of, like_after, moves_after, flow_after, SideRead, side_with, with_flows, ended_after, side_after, level_after, VerdictWord, VerdictRead, sides_after, verdict_in, verdict_with, verdict_after, stab_trace_after, PartsRead, parts_after, AnswerRead, reduced_after, decided_after, with_parts, with_stab, stabilised_after, answer_with, heading_after, done_after, with_end, answer_after, certificate}
 use Rattle.wh_data.specs.Limits.{most_answer_bytes}
 use Rattle.wh_text.specs.Certificates.VerdictWord.{a_yes, a_no_length, a_no_level}
 use Rattle.wh_text.proofs.RankLaws.{rank_is}
@@ -58,13 +60,17 @@ like_told keyword n count p r h e =
     (ok_same (IsTupleIn n) c.0 b.0 same (read_told n a.0.0.number a.0.0.fields c.0 h c.1))
 
 -- ---- sides and verdicts
+ended_told : (n count : ℕ) (ms : List Move) (p : Reading) (r : SideRead × Reading) → n ≤ 26 → ended_after n count ms p ≡ Ok r → IsTuple r.0.side.end
+ended_told n count ms p r h e =
+    let a = bind_ok (like_after (codes "end") n count p) (λ t. with_flows n ms t.0 t.1) r e in
+    let b = bind_ok (times (flow_after n) n a.0.1) (λ fs. Ok (side_with ms a.0.0 fs.0, fs.1)) r a.2 in
+    ok_same (λ (x : SideRead × Reading). IsTuple x.0.side.end) (side_with ms a.0.0 b.0.0, b.0.1) r b.2 (like_told (codes "end") n count p a.0 h a.1).0
+
 side_told : (n count : ℕ) (p : Reading) (r : SideRead × Reading) → n ≤ 26 → side_after n count p ≡ Ok r → IsTuple r.0.side.end
 unfolding side_after
 side_told n count p r h e =
-    let a = bind_ok (moves_after (codes "trace") n p) (λ ms. like_after (codes "end") n count ms.1 >>= λ t. times (flow_after n) n t.1 >>= λ fs. Ok (side_with ms.0 t.0 fs.0, fs.1)) r e in
-    let b = bind_ok (like_after (codes "end") n count a.0.1) (λ t. times (flow_after n) n t.1 >>= λ fs. Ok (side_with a.0.0 t.0 fs.0, fs.1)) r a.2 in
-    let c = bind_ok (times (flow_after n) n b.0.1) (λ fs. Ok (side_with a.0.0 b.0.0 fs.0, fs.1)) r b.2 in
-    ok_same (λ (x : SideRead × Reading). IsTuple x.0.side.end) (side_with a.0.0 b.0.0 c.0.0, c.0.1) r c.2 (like_told (codes "end") n count a.0.1 b.0 h b.1).0
+    let a = bind_ok (moves_after (codes "trace") n p) (λ ms. ended_after n count ms.0 ms.1) r e in
+    ended_told n count a.0.0 a.0.1 r h a.2
 
 abbrev AreSidesTold : SideRead × SideRead → Type 0
 AreSidesTold s = IsTuple s.0.side.end × IsTuple s.1.side.end
@@ -122,11 +128,27 @@ decided_told n p r h e =
     ok_same IsAnswerTold (record { answer = decide a.0.0 b.0.0 c.0.0.verdict; heads = c.0.0.heads; tree_heads = [] }, c.0.1) r c.2
     (first.0, second.0, omega (arith, first.1, h), verdict_told n (length a.0.0.words) b.0.1 c.0 h c.1)
 
+-- what was read of a tuple, its side, and what presents its stabiliser
+abbrev stab_read : TupleData → SideRead → PartsRead → AnswerRead
+stab_read t s ps = record { answer = stabiliser t (done s.side ps.parts); heads = s.heads; tree_heads = ps.heads }
+
+stabilised_told : (n : ℕ) (p : Reading) (r : AnswerRead × Reading) → n ≤ 26 → stabilised_after n p ≡ Ok r → IsAnswerTold r
+unfolding stabilised_after
+stabilised_told n p r h e =
+    let a = bind_ok (tuple_after (codes "tuple") n p) (λ t. with_stab n t.0 t.1) r e in
+    let count = length a.0.0.words in
+    let b = bind_ok (stab_trace_after n a.0.1) (λ ms. ended_after n count ms.0 ms.1 >>= λ s. with_parts n a.0.0 s.0 s.1) r a.2 in
+    let c = bind_ok (ended_after n count b.0.0 b.0.1) (λ s. with_parts n a.0.0 s.0 s.1) r b.2 in
+    let d = bind_ok (level_after n count c.0.1) (λ vs. parts_after n c.0.0.side.end vs.0 vs.1 >>= λ ps. Ok (stab_read a.0.0 c.0.0 ps.0, ps.1)) r c.2 in
+    let f = bind_ok (parts_after n c.0.0.side.end d.0.0 d.0.1) (λ ps. Ok (stab_read a.0.0 c.0.0 ps.0, ps.1)) r d.2 in
+    let tuple = after_told (codes "tuple") n p a.0 h a.1 in
+    ok_same IsAnswerTold (stab_read a.0.0 c.0.0 f.0.0, f.0.1) r f.2 (tuple.0, omega (arith, tuple.1, h), ended_told n count b.0.0 b.0.1 c.0 h c.1)
+
 answer_with_told : (command : Command) (n : ℕ) (p : Reading) (r : AnswerRead × Reading) → n ≤ greatest_rank command → answer_with command n p ≡ Ok r → IsAnswerTold r
 answer_with_told commands.Reduce n p r h e = reduced_told n p r h e
 answer_with_told commands.Decide n p r h e = decided_told n p r (omega (arith, h)) e
 answer_with_told commands.Straighten n p r h e = absurd (cc)
-answer_with_told commands.Stabiliser n p r h e = absurd (cc)
+answer_with_told commands.Stabiliser n p r h e = stabilised_told n p r (omega (arith, h)) e
 
 rank_told : (command : Command) (p : Reading) (r : ℕ × Reading) → rank_after command p ≡ Ok r → r.0 ≤ greatest_rank command
 unfolding rank_after

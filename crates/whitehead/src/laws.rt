@@ -8,8 +8,8 @@ pub fn told()
     ensures { ToldIsUnique }
 {}
 
-/// What a run writes for a problem that it decides or reduces is told `valid`, when another run checks it. Answers of
-/// `straighten` can't be checked.
+/// What a run writes for a problem that it reduces or decides, or whose stabiliser it tells, is told `valid` when another
+/// run checks it. Answers of `straighten` can't be checked.
 pub fn answers()
     ensures { AnswersAreValid }
 {}

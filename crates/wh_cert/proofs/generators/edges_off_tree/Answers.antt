@@ -1,6 +1,5 @@
-use Rattle.std.proofs.Common.{◌≡◌, ℕ, ◌≤◌, length, List, rules, ap, ◌∙◌, sym, subst, arith}
-use Rattle.wh_words.specs.Tuples.{TupleData}
-use Rattle.wh_data.specs.AnswerData.{plains, parts_of}
+use Rattle.std.proofs.Common.{ℕ, sym, subst, arith}
+use Rattle.wh_data.specs.AnswerData.{plains}
 use Rattle.wh_cert.specs.VertexWays.{AreVertices}
 use Rattle.wh_cert.proofs.FollowedWays.{level_vertices}
 use Rattle.wh_cert.proofs.generators.edges_off_tree.Goals as goal

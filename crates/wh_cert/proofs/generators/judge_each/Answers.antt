@@ -1,4 +1,4 @@
-use Rattle.std.proofs.Common.{◌≡◌, ◌+◌, List, length, get_or, rules, refl, sym, ap, ◌∙◌, subst, arith}
+use Rattle.std.proofs.Common.{◌≡◌, List, length, get_or, rules, refl, ap, ◌∙◌, subst, arith}
 use Rattle.wh_stab.specs.Presentations.{Start}
 use Rattle.wh_data.specs.AnswerData.{parts_of}
 use Rattle.wh_cert.specs.Demands.{is_generator, asked_below, generator_asked}

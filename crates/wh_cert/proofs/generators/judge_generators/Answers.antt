@@ -1,4 +1,4 @@
-use Rattle.std.proofs.Common.{List, Vec, Global, Option, length, subst}
+use Rattle.std.proofs.Common.{Vec, Global, Option, length, subst}
 use Rattle.std.specs.Prelude.{MatchOption}
 use Rattle.wh_stab.specs.Presentations.{Start, AreGenerators}
 use Rattle.wh_data.specs.AnswerData.{parts_of}

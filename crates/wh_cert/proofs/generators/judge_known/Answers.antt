@@ -1,6 +1,5 @@
-use Rattle.std.proofs.Common.{◌≡◌, ◌↔◌, ◌+◌, IsTrue, nat_eq, [], ◌∷◌, List, length, rules, refl, ap, sym}
+use Rattle.std.proofs.Common.{◌+◌, nat_eq, [], ◌∷◌, length, rules, refl, ap}
 use Rattle.wh_data.specs.AnswerData.{parts_of}
-use Rattle.wh_cert.specs.Checks.{AreMet}
 use Rattle.wh_cert.specs.Demands.{counts_generators, asked_below, generator_asked}
 use Rattle.wh_cert.proofs.Judging.{met_ok, stopped_first, judged_after}
 use Rattle.wh_cert.proofs.Rising.{numbers_tested}

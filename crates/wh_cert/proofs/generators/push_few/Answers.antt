@@ -1,10 +1,8 @@
-use Rattle.std.proofs.Common.{◌≡◌, ℕ, ◌+◌, ◌<◌, List, [], length, Contains, rules, sym, ap, ◌∙◌, subst, arith}
+use Rattle.std.proofs.Common.{◌+◌, List, length, Contains, rules, sym, ap, subst, arith}
 use Rattle.std.proofs.lemmas.List.{length-map}
-use Rattle.wh_words.specs.Tuples.{TupleData, Tuple}
-use Rattle.wh_words.specs.Moves.{Move}
+use Rattle.wh_words.specs.Tuples.{Tuple}
 use Rattle.wh_expand.specs.Rows.{AreLevelMoves}
 use Rattle.wh_data.specs.AnswerData.{plains, parts_of}
-use Rattle.wh_cert.specs.VertexWays.{AreVertices}
 use Rattle.wh_cert.proofs.Rising.{plain_listed}
 use Rattle.wh_cert.proofs.FirstOffTree.{first_none, first_all, more_off_tree, moves_there}
 use Rattle.wh_cert.proofs.generators.push_few.Goals as goal

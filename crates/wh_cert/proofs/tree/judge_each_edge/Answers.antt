@@ -1,4 +1,4 @@
-use Rattle.std.proofs.Common.{◌≡◌, ◌↔◌, ℕ, ◌+◌, IsTrue, length, get_or, rules, refl, subst, arith}
+use Rattle.std.proofs.Common.{◌≡◌, ◌↔◌, ℕ, IsTrue, get_or, rules, refl, subst, arith}
 use Rattle.wh_data.specs.AnswerData.{parts_of}
 use Rattle.wh_data.specs.Numberings.{tree_lines}
 use Rattle.wh_cert.specs.Demands.{IsTreeEdge, is_tree_edge, tree_vertex, asked_below, tree_edge_asked}

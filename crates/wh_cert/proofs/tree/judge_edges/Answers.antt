@@ -1,4 +1,4 @@
-use Rattle.std.proofs.Common.{◌≡◌, ℕ, ◌+◌, length, sym, ap, subst, arith}
+use Rattle.std.proofs.Common.{ℕ, sym, subst}
 use Rattle.wh_level.specs.Trees.{Parents}
 use Rattle.wh_data.specs.AnswerData.{plains, parts_of}
 use Rattle.wh_data.specs.RootPlaces.{root_place}

@@ -1,4 +1,4 @@
-use Rattle.std.proofs.Common.{◌≡◌, ℕ, ◌+◌, ◌*◌, ◌<◌, ◌≤◌, List, length, get_or, sym, subst, arith}
+use Rattle.std.proofs.Common.{ℕ, ◌<◌, List, length, get_or, sym, subst, arith}
 use Rattle.wh_cert.specs.WaysBack.{AreTwice}
 use Rattle.wh_cert.proofs.BackWays.{steps_inside, steps_doubled, all_told}
 use Rattle.wh_cert.proofs.tree.ways_back.Goals as goal

@@ -1,12 +1,12 @@
-use Rattle.std.proofs.Common.{◌≡◌, ℕ, ◌+◌, ◌∷◌, [], ◌++◌, length, rules, refl, sym, ap, ◌∙◌, subst, arith}
+use Rattle.std.proofs.Common.{rules, refl, sym, arith}
 use Rattle.std.proofs.lemmas.Bool.{false≢true}
 use Rattle.std.proofs.lemmas.List.{length-map}
 use Rattle.std.proofs.lemmas.List.Elements.{All-contains}
 use Rattle.std.proofs.lemmas.Option.{slice_get_within}
-use Rattle.wh_words.specs.Tuples.{TupleData, Tuple}
+use Rattle.wh_words.specs.Tuples.{Tuple}
 use Rattle.wh_words.specs.Moves.{Move}
 use Rattle.wh_data.specs.AnswerData.{plains}
-use Rattle.wh_cert.specs.VertexWays.{AreVertices, LeadsTo}
+use Rattle.wh_cert.specs.VertexWays.{AreVertices}
 use Rattle.wh_cert.proofs.FollowedWays.{way_begins, way_stops, way_goes_on, way_is_followed}
 use Rattle.wh_cert.proofs.ways.follow.Goals as goal
 

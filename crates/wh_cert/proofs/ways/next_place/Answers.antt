@@ -1,5 +1,5 @@
 use Rattle.std.proofs.Common.{rules}
-use Rattle.wh_cert.proofs.Rising.{plain_at, plain_listed}
+use Rattle.wh_cert.proofs.Rising.{plain_listed}
 use Rattle.wh_cert.proofs.FollowedWays.{step_taken}
 use Rattle.wh_cert.proofs.ways.next_place.Goals as goal
 
@@ -8,4 +8,4 @@ image_place-requires-clause-listed c = plain_listed c.args.vertices.now c.args.f
 
 pub returns-clause-place : goal.returns-clause-place
 returns-clause-place c =
-    step_taken c.args.vertices.now c.args.from c.index-vertices-from.result c.args.m.now c.is_identity.result c.image_place.result c.requires.within (search rules) c.is_identity.ensures c.if-is_identity.false c.image_place.ensures.place
+    step_taken c.args.vertices.now c.args.from c.index-vertices-from.result c.args.m.now c.is_identity.result c.image_place.result c.requires.within (search rules) c.rank.ensures.valid c.is_identity.ensures c.if-is_identity.false c.image_place.ensures.place

@@ -1,9 +1,7 @@
 use Rattle.std.proofs.Common.{rules, of_calls}
 use Rattle.std.proofs.lemmas.Fn.{always_returns_same}
-use Rattle.wh_words.specs.Tuples.{TupleData, Tuple, tuple_cmp}
-use Rattle.wh_words.proofs.SameTuples.{tuple_cmp_total, tied}
-use Rattle.wh_data.specs.AnswerData.{plains}
-use Rattle.wh_cert.proofs.FollowedWays.{plains_searched, vertex_found}
+use Rattle.wh_words.specs.Tuples.{Tuple, tuple_cmp}
+use Rattle.wh_cert.proofs.FollowedWays.{vertex_found}
 use Rattle.wh_cert.proofs.ways.place_of.Goals as goal
 
 pub returns : goal.returns
