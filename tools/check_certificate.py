@@ -1,9 +1,8 @@
 #!/usr/bin/env python3
-"""Checks an answer of `whitehead reduce` or `whitehead decide`, and shares nothing with the program.
+"""Checks an answer of `whitehead reduce`, `whitehead decide` or `whitehead stabiliser`, and shares nothing with the program.
 
     check_certificate.py < answer
     check_certificate.py --straightened < answer      checks an answer of `whitehead straighten`; see below
-    check_certificate.py --stabiliser < answer        checks generators and relators of a stabiliser; see below
 
 It reads the answer on standard input and writes the very line that `whitehead check` writes, with its exit status:
 
@@ -18,14 +17,15 @@ A text is refused before any rule is tried. Its size comes first, and then its l
                                     everything else of the line, and skipped lines are looked at too.
     no-certificate line L           The line is the heading of another command, or an undecided verdict, and so there is
                                     nothing to check. What follows isn't looked at.
-    level-rank N                    The line is the rank line of an answer of `decide`, and its rank N is greater than 6.
+    level-rank N                    The line is the rank line of an answer of `decide` or `stabiliser`, and its rank N is
+                                    greater than 6 or than 4.
     bad-line line L                 The line doesn't continue an answer in any other way. L is the place past the end
                                     where lines are missing.
 
 The rules are these, and each is broken where its sentence holds. Lines are tried in order, and the rules of one line in
 the order in which they stand here.
 
-In the lines of a tuple that is reduced, and in those of both tuples of a no:
+In the lines of a tuple that is reduced or whose stabiliser is told, and in those of both tuples of a no:
 
     long      Some tuple on the way of the trace has more than 4,096 letters. This is told in the line `trace`.
     end       The trace doesn't take the tuple to the end. This is told in the line `end`.
@@ -53,31 +53,8 @@ In an `at` line:
 So a valid trace takes a tuple to its end, and flows show that no cut shortens the end. A valid yes carries the first
 tuple onto the second. A valid level shows that moves which keep the length never take the first end to the second.
 
-`whitehead check` has no rules for answers of `straighten`, and refuses them. With --straightened they are checked by the
-rules that follow, and the answers of all other commands are refused by `no-certificate`. Between the line of the rank and
-`done` such an answer has the lines `tuple WORDS`, `given MOVES` with at most 1,024 moves, `moves MOVES` and `end WORDS`.
-
-In the line `given`:
-
-    long      Some tuple on the way of the given list has more than 4,096 letters.
-
-In the line `moves`:
-
-    long      Some tuple on the way of the moves has more than 4,096 letters.
-    straight  The lengths of the tuples on the way don't fall at each move, then stay, and then rise at each move.
-    alike     The moves and the given list aren't one automorphism up to conjugation. Where images of generators have many
-              letters on the way, a difference that is found is there, and that there is none is told with a tiny chance of
-              error: `alike` says how.
-
-In the line `end`:
-
-    end       The given list or the moves don't take the tuple to the end.
-
-So the moves of a valid answer do what the given list does, and no tuple on their way is longer than both the first and the
-last; where no cut shortens either of these, all have one length.
-
-With --stabiliser answers of the command `stabiliser` are checked, which presents the automorphisms that fix a tuple (McCool
-1975). Between the line of the rank, which is at most 4, and `done` such an answer has the lines
+An answer of `stabiliser` presents the automorphisms that fix a tuple (McCool 1975). Between the line of the rank, which is at
+most 4, and `done` it has the lines
 
     tuple WORDS
     trace MOVES, end WORDS and the lines `flow`, as above
@@ -114,7 +91,31 @@ In a `relator` line:
     numbers     The numbers aren't those of the generators on the way, one after the other.
 
 So each generator is an automorphism that fixes the tuple: the trace, the tree's path to V, MOVE, the path to the end of MOVE
-back, and the trace back. Together they generate all of these, and the relators hold.
+back, and the trace back. Together they generate all of these, and the relators hold. The tree may be any that leads to all
+vertices, and relators may be missing.
+
+`whitehead check` has no rules for answers of `straighten`, and refuses them. With --straightened they are checked by the
+rules that follow, and the answers of all other commands are refused by `no-certificate`. Between the line of the rank and
+`done` such an answer has the lines `tuple WORDS`, `given MOVES` with at most 1,024 moves, `moves MOVES` and `end WORDS`.
+
+In the line `given`:
+
+    long      Some tuple on the way of the given list has more than 4,096 letters.
+
+In the line `moves`:
+
+    long      Some tuple on the way of the moves has more than 4,096 letters.
+    straight  The lengths of the tuples on the way don't fall at each move, then stay, and then rise at each move.
+    alike     The moves and the given list aren't one automorphism up to conjugation. Where images of generators have many
+              letters on the way, a difference that is found is there, and that there is none is told with a tiny chance of
+              error: `alike` says how.
+
+In the line `end`:
+
+    end       The given list or the moves don't take the tuple to the end.
+
+So the moves of a valid answer do what the given list does, and no tuple on their way is longer than both the first and the
+last; where no cut shortens either of these, all have one length.
 
 Letters are numbers here: generator g (from 0) is 2 g and its inverse 2 g + 1, so that x ^ 1 is the inverse of x.
 """
@@ -829,8 +830,9 @@ def check_generated(rank, told):
     return graph, parents, check_generators(graph, parents, told.generators)
 
 
-def check_presentation(rank, told):
-    graph, _, numbers = check_generated(rank, told)
+def check_presented(reader):
+    told = read_presentation(reader)
+    graph, _, numbers = check_generated(reader.rank, told)
     _, relators = told.relators
     for relator in relators:
         check_relator(graph, numbers, relator)
@@ -860,15 +862,20 @@ def read_rank(reader, greatest):
     return rank
 
 
+# The commands whose answers `whitehead check` judges: the greatest rank, and what checks the lines behind that of the rank.
+CHECKED = {
+    "reduce": (GREATEST_RANK, check_reduced),
+    "decide": (GREATEST_LEVEL_RANK, check_decided),
+    "stabiliser": (GREATEST_STABILISER_RANK, check_presented),
+}
+
+
 def check(data):
     """Returns where the answer is valid, and raises Refused or Broken elsewhere."""
     reader = Reader(data)
-    if read_heading(reader, ("reduce", "decide")) == "reduce":
-        reader.rank = read_rank(reader, GREATEST_RANK)
-        check_reduced(reader)
-    else:
-        reader.rank = read_rank(reader, GREATEST_LEVEL_RANK)
-        check_decided(reader)
+    greatest, check_lines = CHECKED[read_heading(reader, CHECKED)]
+    reader.rank = read_rank(reader, greatest)
+    check_lines(reader)
 
 
 def check_straightened(data):
@@ -887,11 +894,6 @@ def read_stabiliser(data):
     return reader.rank, read_presentation(reader)
 
 
-def check_stabiliser(data):
-    """The same for an answer of `stabiliser`."""
-    check_presentation(*read_stabiliser(data))
-
-
 def found(data, checked=check):
     """What is told of a text, and the exit status."""
     try:
@@ -903,15 +905,12 @@ def found(data, checked=check):
     return "valid", 0
 
 
-OTHER_CHECKS = {"--straightened": check_straightened, "--stabiliser": check_stabiliser}
-
-
 def main(words):
-    if words and (len(words) > 1 or words[0] not in OTHER_CHECKS):
+    if words not in ([], ["--straightened"]):
         print(__doc__, file=sys.stdout if words == ["--help"] else sys.stderr)
         return 0 if words == ["--help"] else 64
     data = sys.stdin.buffer.read(MOST_BYTES + 1)
-    text, status = found(data, OTHER_CHECKS[words[0]] if words else check)
+    text, status = found(data, check_straightened if words else check)
     print(text)
     return status
 
