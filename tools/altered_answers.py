@@ -353,6 +353,7 @@ DOUBLED = [(COMMUTATOR, [2, 3, 4, 5, 6, 7, 8, 10, 10, 11, 12, 14, 14, 15, 17, 17
 
 # ---- texts of other kinds
 
+# The cube of a letter. Other answers of `stabiliser` stand in `altered_stabilisers`.
 STABILISER = """whitehead 1 stabiliser
 rank 1
 tuple aaa
@@ -396,7 +397,10 @@ OTHER_TEXTS = [
     ("whitehead 1 straighten", "refused no-certificate line 1"),
     ("whitehead 1 straighten\nrank 99\ntuple ?\nmoves a:b s0\n\0\n", "refused no-certificate line 1"),
     ("# a straight list\n\n whitehead  1  straighten \ndone\n", "refused no-certificate line 3"),
-    (STABILISER, "refused no-certificate line 1"),
+    ("whitehead 1 stabiliser", "refused bad-line line 2"),
+    ("whitehead 1 stabiliser\nrank 4\n", "refused bad-line line 3"),
+    ("whitehead 1 stabiliser\nrank 5\ntuple ?\n", "refused level-rank 5"),
+    (STABILISER + STABILISER, "refused bad-line line 17"),
     (GEN, "refused no-certificate line 1"),
     ("", "refused bad-line line 1"),
     ("\n", "refused bad-line line 2"),
@@ -509,11 +513,13 @@ ALTERATIONS = [
     # ---- headings and ranks
     (COMMUTATOR, "whitehead 1", "whitehead 3", "refused bad-line line 1"),
     (COMMUTATOR, "1 decide", "1 straighten", "refused no-certificate line 1"),
-    (COMMUTATOR, "1 decide", "1 stabiliser", "refused no-certificate line 1"),
+    (COMMUTATOR, "1 decide", "1 stabiliser", "refused bad-line line 3"),
     (COMMUTATOR, "1 decide", "1 gen", "refused no-certificate line 1"),
     (COMMUTATOR, "whitehead 1 decide", "#\n whitehead  1  gen", "refused no-certificate line 2"),
     (COMMUTATOR, "1 decide\n", "1 straighten\n\t\n", "refused no-certificate line 1"),
-    (COMMUTATOR, "1 decide\nrank 2", "1 stabiliser\nrank 9", "refused no-certificate line 1"),
+    (COMMUTATOR, "1 decide\nrank 2", "1 stabiliser\nrank 9", "refused level-rank 9"),
+    (TORUS, "1 reduce", "1 stabiliser", "refused bad-line line 8"),
+    (TORUS, "1 reduce\nrank 2", "1 stabiliser\nrank 5", "refused level-rank 5"),
     (COMMUTATOR, "1 decide", "1 gen\t", "refused bad-byte line 1 column 16"),
     (COMMUTATOR, "whitehead 1 decide", "# \x80\nwhitehead 1 gen", "refused bad-byte line 1 column 3"),
     (COMMUTATOR, "rank 2", "rank 7", "refused level-rank 7"),
@@ -775,6 +781,7 @@ WITH_OPTIONS = [
     ("-- check", TORUS, "valid"),
     ("check --limit 1", SHORT_LEVEL.replace("at aBAb\n", ""), "invalid line 15 closed"),
     ("check --workers 8", GEN, "refused no-certificate line 1"),
+    ("check --limit 1 --workers 2", STABILISER, "valid"),
     ("check check", TORUS, "refused words"),
     ("check reduce", TORUS, "refused words"),
     ("Check", TORUS, "refused words"),

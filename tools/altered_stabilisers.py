@@ -256,8 +256,9 @@ FOUR = all_of_rank(
 
 RIGHT = [NO_WORDS, EMPTY_WORD, CUBE, ALL, TORUS, PRIMITIVE, LETTERS, KLEIN, THREE, FOUR]
 
-# Answers of which each line is taken out, doubled, and exchanged with the next one.
+# Answers of which each line is altered, and those of them that are altered so in the table of runs.
 SHORT = [CUBE, TORUS, PRIMITIVE, LETTERS]
+IN_TABLE = [CUBE, TORUS]
 
 # ---- alterations
 
@@ -277,15 +278,31 @@ VERDICT = "verdict undecided level 5"
 TORUS_BY_I1 = TORUS.replace("tree 2 1 s1", "tree 2 1 i1").replace("generator 1 i1\n", "generator 1 s1\n")
 TORUS_BY_I1 = f"{TORUS_BY_I1[: TORUS_BY_I1.index('relators ')]}{relators()}done\n"
 
-# An answer, what is replaced in it, by what, and what is found where stabilisers are asked for.
+# PRIMITIVE with another tree, which is one path: the parents of the first two vertices come later.
+PRIMITIVE_BY_A_PATH = f"""{PRIMITIVE[: PRIMITIVE.index("tree ")]}tree 1 2 i1
+tree 2 4 s1
+tree 4 3 i2
+{generators(
+    "s1 i1 i2 a:ab a:aB a:abB A:Ab A:AB A:AbB b:aAb B:aAB",
+    "s1 i2 a:ab a:aB a:abB A:Ab A:AB A:AbB b:aAb B:aAB",
+    "s1 i1 a:abB A:AbB b:ab b:Ab b:aAb B:aB B:AB B:aAB",
+    "i1 i2 a:abB A:AbB b:ab b:Ab b:aAb B:aB B:AB B:aAB",
+)}{relators(
+    "1 s1 s1 = 1 22",
+    "1 s1 i1 s1 i2 = 1 23 22 3",
+    "2 i1 i1 = 2",
+)}done
+"""
+
+# An answer, what is replaced in it, by what, and what is found.
 ALTERATIONS = [
     # ---- lines, fields and bytes
     (CUBE, "whitehead 1 stabiliser\nrank 1", "# a comment\n whitehead  1  stabiliser\n\nrank 1 ", "valid"),
     (CUBE, "done\n", "done", "valid"),
     (CUBE, "tree 2 1 i1", "#\n  tree  2 1   i1 ", "valid"),
     (CUBE, "relator 2 i1 i1 = 1", " relator  2  i1 i1  =  1 ", "valid"),
-    (CUBE, "1 stabiliser", "1 reduce", "refused no-certificate line 1"),
-    (CUBE, "1 stabiliser", "1 decide", "refused no-certificate line 1"),
+    (CUBE, "1 stabiliser", "1 reduce", "refused bad-line line 7"),
+    (CUBE, "1 stabiliser", "1 decide", "refused bad-line line 3"),
     (CUBE, "1 stabiliser", "1 straighten", "refused no-certificate line 1"),
     (CUBE, "1 stabiliser\nrank 1", "1 gen\n\t", "refused no-certificate line 1"),
     (CUBE, "1 stabiliser", "2 stabiliser", "refused bad-line line 1"),
@@ -421,6 +438,9 @@ ALTERATIONS = [
     (TORUS_BY_I1, "done", "done", "valid"),
     (TORUS_BY_I1, "relators 0\n", relators("1 i1 i1 = 16", "2 i1 s1 = 16 1"), "invalid line 44 identity"),
     (TORUS_BY_I1, "relators 0\n", relators("1 i1 i1 = 16", "1 s1 s1 = 1 15"), "valid"),
+    (PRIMITIVE_BY_A_PATH, "done", "done", "valid"),
+    (PRIMITIVE_BY_A_PATH, "relator 2 i1 i1 = 2", "relator 2 i1 i1 =", "invalid line 61 numbers"),
+    (PRIMITIVE_BY_A_PATH, "tree 4 3 i2", "tree 4 2 s1", "invalid line 13 tree"),
     (PRIMITIVE, "tree 2 1 i1", "tree 2 4 s1", "invalid line 18 generator"),
     (PRIMITIVE, "tree 1 3 s1\ntree 2 1 i1", "tree 1 2 i1\ntree 2 4 s1", "invalid line 18 generator"),
     # ---- the generators

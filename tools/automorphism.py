@@ -14,7 +14,7 @@ lists that follow one another are the product of their automorphisms, in GAP too
 
 A generator `generator V MOVE` of a stabiliser stands for a list of moves, which fixes the tuple: the trace, the tree's path
 to vertex V, MOVE, the path to the vertex after MOVE back, and the trace back. The answer has to keep the rules of
-`check_certificate.py --stabiliser`, but for those of relators. Images have at most 65,536 letters on the way.
+`check_certificate.py`, but for those of relators. Images have at most 65,536 letters on the way.
 """
 
 import sys

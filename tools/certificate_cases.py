@@ -4,10 +4,11 @@
     certificate_cases.py write     puts the cases into crates/wh_tests_rows/stdin and stdout, in the place of those that stand there
     certificate_cases.py compare   compares them with those that stand there
 
-The inputs are stored answers, right answers, some of them altered by hand, answers of the table that have a large level,
-and random certificates, most of them altered at random. What is told of an input was written by hand; of a certificate
-that is altered at random, and of a large level, it is what the checker of certificates finds. The random ones are the same each time. The tool
-stops where the checker finds something else than was written.
+The inputs are stored answers, right answers, some of them altered by hand, answers of `stabiliser` of which each line is
+altered, answers of the table that have a large level or are of `stabiliser`, and random certificates, most of them altered
+at random. What is told of an input was written by hand; of a certificate that is altered at random, of fields that are
+altered, and of a large level, it is what the checker of certificates finds. The random ones are the same each time. The
+tool stops where the checker finds something else than was written.
 """
 
 import random
@@ -16,11 +17,13 @@ import sys
 import typing
 
 import altered_answers
+import altered_lines
+import altered_stabilisers
 import table
 from check_certificate import found
 from random_certificates import altered_at_random, random_certificate
 
-MOST_STORED = 20000
+MOST_STORED = 25000
 RANDOM_CERTIFICATES = 40
 MOST_TUPLES = 12
 LARGE_LEVEL = re.compile(r"^level (\d{4,})$", re.MULTILINE)
@@ -48,14 +51,21 @@ def altered(answer, old, new):
 
 
 def is_unchecked(text):
-    return text.startswith(("whitehead 1 straighten\n", "whitehead 1 stabiliser\n"))
+    return text.startswith("whitehead 1 straighten\n")
+
+
+def is_stabiliser(text):
+    return text.startswith("whitehead 1 stabiliser\n")
 
 
 def stored_verdict(text):
-    """What an answer of the program gets. The fifth line of an answer of `decide` has the verdict."""
+    """What an answer of the program gets. The fifth line of an answer of `decide` has the verdict, the fourth of one of
+    `stabiliser`."""
     if is_unchecked(text):
         return "refused no-certificate line 1"
-    return "refused no-certificate line 5" if "\nverdict undecided " in text else "valid"
+    if "\nverdict undecided " in text:
+        return f"refused no-certificate line {4 if is_stabiliser(text) else 5}"
+    return "valid"
 
 
 def stored_cases():
@@ -94,6 +104,23 @@ def line_cases():
                 yield check_of(text, f"refused bad-line line {number}")
 
 
+def stabiliser_cases():
+    """Right answers of `stabiliser`, altered by hand and line by line, and those of the table."""
+    for answer in altered_stabilisers.RIGHT:
+        yield check_of(answer, "valid")
+    for answer, old, new, told in altered_stabilisers.ALTERATIONS:
+        yield check_of(altered(answer, old, new), told)
+    for answer in altered_stabilisers.IN_TABLE:
+        for _, text, told in (*altered_lines.by_lines(answer), *altered_lines.by_fields(answer)):
+            yield check_of(text, told)
+    for _, text, told in altered_lines.by_counts(altered_stabilisers.CUBE):
+        yield check_of(text, told)
+    for case in table.parts().problems:
+        _, answer = case.told.split("\n", 1)
+        if is_stabiliser(answer):
+            yield check_of(answer, stored_verdict(answer))
+
+
 def level_cases():
     """Answers of the table with a large level, and the same without the last tuple of the level."""
     for case in table.parts().problems:
@@ -127,7 +154,7 @@ def random_cases():
 
 def written():
     """All cases, each once."""
-    made = [*stored_cases(), *written_cases(), *line_cases(), *level_cases(), *random_cases()]
+    made = [*stored_cases(), *written_cases(), *line_cases(), *stabiliser_cases(), *level_cases(), *random_cases()]
     return list(dict.fromkeys(made))
 
 

@@ -1,6 +1,6 @@
 #!/usr/bin/env python3
 """Runs the checker of certificates on stored answers, on the cases of `check` in the table of runs, on straight lists, and on
-generators and relators of stabilisers; and the tool that writes automorphisms on the last.
+answers of `stabiliser`; and the tool that writes automorphisms on the last.
 
     test_check_certificate.py
 
@@ -15,8 +15,8 @@ It ends with status 0 exactly where all of these hold:
 - on each case of `check` the checker finds what the table tells, and has the status that it tells;
 - of answers of `straighten`, right ones and altered ones, it finds what was written by hand, whether it writes out images
   or goes by matrices;
-- of answers of `stabiliser`, right ones and altered ones, it finds what was written by hand; and of those of which a line is
-  taken out, doubled, or exchanged with the next one, what follows from the keywords of these lines;
+- of answers of `stabiliser` of which a line is taken out, doubled, or exchanged with the next one, it finds what follows
+  from the keywords of these lines;
 - the reference answers the problems of the right ones, but for that of rank 4, with the same generators, and with their
   relators among its own; what it answers is valid;
 - the list of moves of each generator fixes the tuple, followed by its inverse it is the identity, and a product of lists by
@@ -31,12 +31,13 @@ import sys
 
 import alike
 import altered_answers
+import altered_lines
 import altered_stabilisers
 import automorphism
 import reference
 import table
 from certificate_cases import altered, stored_verdict
-from check_certificate import MOST_BYTES, act, check_stabiliser, check_straightened, composite, found, read_stabiliser
+from check_certificate import MOST_BYTES, act, check_straightened, composite, found, read_stabiliser
 
 # ---- tests, each with what is got and what is right
 
@@ -49,10 +50,6 @@ def found_once(data):
 
 def found_straightened(text):
     return found(text.encode("latin1"), check_straightened)[0]
-
-
-def found_stabiliser(text):
-    return found(text.encode("latin1"), check_stabiliser)[0]
 
 
 def stored_answers():
@@ -69,9 +66,6 @@ def stored_tests():
         yield name, found_once(text.encode())[0], stored_verdict(text)
         if text.startswith("whitehead 1 straighten\n"):
             yield f"{name}, as a straight list", found_straightened(text), "valid"
-        if text.startswith("whitehead 1 stabiliser\n"):
-            right = "refused no-certificate line 4" if "\nverdict undecided " in text else "valid"
-            yield f"{name}, as a stabiliser", found_stabiliser(text), right
 
 
 def table_tests():
@@ -97,67 +91,12 @@ def matrix_tests():
 # ---- stabilisers
 
 
-def stabiliser_tests():
-    for k, answer in enumerate(altered_stabilisers.RIGHT, 1):
-        yield f"right answer {k} of stabiliser", found_stabiliser(answer), "valid"
-        yield f"right answer {k} of stabiliser, for check", found(answer.encode())[0], "refused no-certificate line 1"
-    for k, (answer, old, new, told) in enumerate(altered_stabilisers.ALTERATIONS, 1):
-        yield f"altered answer {k} of stabiliser", found_stabiliser(altered(answer, old, new)), told
-
-
-# By its keyword, what is found of a line that is exchanged with another one of the keyword: which of the two breaks a rule.
-EXCHANGED = {"flow": (1, "flow"), "at": (2, "sorted"), "tree": (1, "tree"), "generator": (1, "generator")}
-
-
-def keyword(line):
-    return line.split()[0]
-
-
-def last_alike(lines, k):
-    """The number of the last line of those that follow line k, counted from 0, and have its keyword, one after the other."""
-    others = (number for number in range(k, len(lines)) if keyword(lines[number]) != keyword(lines[k]))
-    return next(others, len(lines))
-
-
-def exchanged_verdict(lines, k):
-    """What is found where line k, counted from 0, is exchanged with the next one."""
-    first, second = keyword(lines[k]), keyword(lines[k + 1])
-    if first != second:
-        return f"refused bad-line line {k + 1}"
-    if first == "relator":
-        return "valid"
-    place, rule = EXCHANGED[first]
-    return f"invalid line {k + place} {rule}"
-
-
 def line_tests():
-    """Each line is taken out, doubled, and exchanged with the next one."""
+    """One line is altered."""
     for answer in altered_stabilisers.SHORT:
-        lines = answer.splitlines(keepends=True)
-        for k, line in enumerate(lines):
-            last = last_alike(lines, k)
-            without = "".join(lines[:k] + lines[k + 1 :])
-            twice = "".join(lines[:k] + [line] + lines[k:])
-            yield f"{line!r} is taken out", found_stabiliser(without), f"refused bad-line line {last}"
-            yield f"{line!r} is doubled", found_stabiliser(twice), f"refused bad-line line {last + 1}"
-        for k, (line, other) in enumerate(zip(lines, lines[1:])):
-            exchanged = "".join(lines[:k] + [other, line] + lines[k + 2 :])
-            yield f"{line!r} and {other!r} are exchanged", found_stabiliser(exchanged), exchanged_verdict(lines, k)
-
-
-def count_tests():
-    """Each relator or generator is taken out or doubled, and the number of these lines is the right one."""
-    for answer in altered_stabilisers.SHORT:
-        lines = answer.splitlines(keepends=True)
-        for counted in ("relator", "generator"):
-            places = [k for k, line in enumerate(lines) if keyword(line) == counted]
-            first = places[0]
-            told = "valid" if counted == "relator" else f"invalid line {first} generators"
-            for k in places:
-                for times in (0, 2):
-                    count = f"{counted}s {len(places) - 1 + times}\n"
-                    text = "".join([*lines[: first - 1], count, *lines[first:k], *lines[k : k + 1] * times, *lines[k + 1 :]])
-                    yield f"{lines[k]!r} stands {times} times", found_stabiliser(text), told
+        for alterations in (altered_lines.by_lines, altered_lines.by_counts):
+            for name, text, told in alterations(answer):
+                yield name, found(text.encode())[0], told
 
 
 def reference_tests():
@@ -168,11 +107,11 @@ def reference_tests():
             continue
         told, _ = reference.told(["stabiliser"], f"{rank}\n{words}\n".encode())
         (front, relators), (other, others) = (text.split("relators ") for text in (answer, told))
-        yield f"the reference for {words!r}", found_stabiliser(told), "valid"
+        yield f"the reference for {words!r}", found(told.encode())[0], "valid"
         yield f"the generators for {words!r}", other, front
         yield f"the relators for {words!r}", set(relators.splitlines()[1:]) - set(others.splitlines()), set()
     told, _ = reference.told(["stabiliser"], b"rank 3\ntuple abAB bcBC caCA\n")
-    yield "the reference for a large level", found_stabiliser(told), "valid"
+    yield "the reference for a large level", found(told.encode())[0], "valid"
     for rank in ("9" * 5000, "\u0663".encode().decode("latin1"), "27", ""):
         yield f"the rank {rank[:9]!r}", reference.told(["reduce"], f"rank {rank}\n".encode("latin1"))[1], 2
 
@@ -217,7 +156,7 @@ def automorphism_tests():
     for text in altered_stabilisers.NO_LISTS:
         yield f"automorphism {text!r}", run_automorphism(text.split(" ")), ("", 2)
     wide = altered(altered_stabilisers.TORUS, "trace\n", f"trace {altered_stabilisers.WIDE}\n")
-    yield "a wide trace", found_stabiliser(wide), "valid"
+    yield "a wide trace", found(wide.encode())[0], "valid"
     yield "generators by a wide trace", run_automorphism(["--generators"], wide.encode()), ("", 2)
     yield "a wide list", run_automorphism(["2", *altered_stabilisers.WIDE.split()]), ("", 2)
     told, status = run_automorphism(["--generators"], altered_stabilisers.PRIMITIVE.encode())
@@ -254,9 +193,7 @@ OTHER_TESTS = [
     stored_tests,
     straightened_tests,
     matrix_tests,
-    stabiliser_tests,
     line_tests,
-    count_tests,
     reference_tests,
     list_tests,
     automorphism_tests,
