@@ -6,8 +6,8 @@
 
 The inputs are stored answers, right answers, some of them altered by hand, answers of `stabiliser` of which each line is
 altered, answers of the table that have a large level or are of `stabiliser`, and random certificates, most of them altered
-at random. What is told of an input was written by hand; of a certificate that is altered at random, of fields that are
-altered, and of a large level, it is what the checker of certificates finds. The random ones are the same each time. The
+at random as right answers of `stabiliser` are. What is told of an input was written by hand; of a certificate that is
+altered at random, of fields that are altered, and of a large level, it is what the checker of certificates finds. The random ones are the same each time. The
 tool stops where the checker finds something else than was written.
 """
 
@@ -25,6 +25,7 @@ from random_certificates import altered_at_random, random_certificate
 
 MOST_STORED = 25000
 RANDOM_CERTIFICATES = 40
+RANDOM_STABILISERS = 40
 MOST_TUPLES = 12
 LARGE_LEVEL = re.compile(r"^level (\d{4,})$", re.MULTILINE)
 
@@ -152,9 +153,17 @@ def random_cases():
         yield altered_case(rng, text, k % 4 == 0)
 
 
+def random_stabiliser_cases():
+    """Right answers of `stabiliser` are altered at random, so that they aren't refused."""
+    rng = random.Random(21)
+    for k in range(RANDOM_STABILISERS):
+        yield altered_case(rng, altered_stabilisers.SHORT[k % len(altered_stabilisers.SHORT)], False)
+
+
 def written():
     """All cases, each once."""
-    made = [*stored_cases(), *written_cases(), *line_cases(), *stabiliser_cases(), *level_cases(), *random_cases()]
+    made = [*stored_cases(), *written_cases(), *line_cases(), *stabiliser_cases(), *level_cases()]
+    made += [*random_cases(), *random_stabiliser_cases()]
     return list(dict.fromkeys(made))
 
 
