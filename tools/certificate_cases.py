@@ -5,10 +5,10 @@
     certificate_cases.py compare   compares them with those that stand there
 
 The inputs are stored answers, right answers, some of them altered by hand, answers of `stabiliser` of which each line is
-altered, answers of the table that have a large level or are of `stabiliser`, and random certificates, most of them altered
-at random as right answers of `stabiliser` are. What is told of an input was written by hand; of a certificate that is
-altered at random, of fields that are altered, and of a large level, it is what the checker of certificates finds. The random ones are the same each time. The
-tool stops where the checker finds something else than was written.
+altered, answers of the table that have a large level or are of `stabiliser`, and random certificates. Most of the random
+ones are altered at random, and so are some answers of `stabiliser`. What is told of an input was written by hand; where it is
+altered at random or by its fields, or has a large level, it is what the checker of certificates finds. What is random is the
+same each time. The tool stops where the checker finds something else than was written.
 """
 
 import random
