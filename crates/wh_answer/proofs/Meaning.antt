@@ -1,26 +1,17 @@
 -- What a valid certificate shows, whoever wrote it.
-use Rattle.std.proofs.Common.{◌≡◌, ◌≢◌, ℕ, Some, ◌+◌, ◌*◌, ◌<◌, ◌≤◌, List, [], ◌∷◌, ◌++◌, length, get_or, inl, inr, Contains, refl, sym, subst, arith}
+use Rattle.std.proofs.Common.{◌≡◌, ◌≢◌, ℕ, Some, ◌+◌, ◌*◌, ◌<◌, List, [], ◌∷◌, length, refl, sym, subst, arith}
 use Rattle.std.specs.List.{All}
-use Rattle.std.proofs.lemmas.Bool.{cases_lt}
-use Rattle.std.proofs.lemmas.List.{length-append, get_or_append_left, get_or-append-add}
-use Rattle.std.proofs.lemmas.List.Elements.{All-head, All-tail, All-from_get_or, All-contains}
-use Rattle.wh_words.specs.Tuples.{TupleData, IsTuple, tuple_length}
+use Rattle.std.proofs.lemmas.List.Elements.{All-from_get_or, All-contains}
+use Rattle.wh_words.specs.Tuples.{TupleData, tuple_length}
 use Rattle.wh_words.specs.Moves.{Move}
-use Rattle.wh_words.specs.Action.{act_all}
-use Rattle.wh_words.specs.Traces.{IsFlat}
-use Rattle.wh_words.specs.Flows.{HasValue}
-use Rattle.wh_words.specs.Levels.{InLevel, Reaches}
-use Rattle.wh_words.specs.Levels.Reaches.{here, step}
-use Rattle.wh_flow.specs.Tables.{cell}
-use Rattle.wh_reduce.proofs.Certificates.{flows_flat}
-use Rattle.wh_data.specs.AnswerData.{SideData}
+use Rattle.wh_words.specs.Levels.{InLevel}
 use Rattle.wh_data.specs.AnswerData.VerdictData.{yes, no_length, no_level, undecided}
 use Rattle.wh_data.specs.AnswerData.StabVerdictData.{done, stopped}
 use Rattle.wh_data.specs.AnswerData.AnswerData.{reduce, decide, straighten, stabiliser}
 use Rattle.wh_data.specs.Numberings.{side_lines}
-use Rattle.wh_cert.specs.Demands.{Demand, Placed, fit_on_the_way, moves_carry, lengths_differ, lengths_agree, rises, has_height, is_absent, is_closed, has_root, has_flow, trace_ends, IsGeneratorFlow, ImagesAreIn, IsMet, tuple_at, asked_below, trace_asked, flow_asked, flows_asked, side_asked, sides_asked, at_asked, level_asked}
+use Rattle.wh_cert.specs.Demands.{Placed, fit_on_the_way, moves_carry, lengths_differ, lengths_agree, rises, has_height, is_absent, is_closed, tuple_at, sides_asked, level_asked}
 use Rattle.wh_cert.specs.Checks.{AreMet}
-use Rattle.wh_cert.proofs.MetParts.{first_part, rest_part, first_met, rest_met, met_in}
+use Rattle.wh_cert.proofs.MetParts.{first_part, rest_part, first_met, rest_met}
 use Rattle.wh_cert.proofs.MetLevels.{root_in, tuple_met, stays}
 use Rattle.wh_peak.specs.Equivalence.{AreMovesOfRank}
 use Rattle.wh_peak.specs.Stabilisers.{LeadsToFlat}

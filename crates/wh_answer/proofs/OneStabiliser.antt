@@ -1,6 +1,5 @@
 -- A tuple has one stabiliser: what is found of it is told by one list of rows, and by one status.
 use Rattle.std.proofs.Common.{◌≡◌, ◌⊎◌, ℕ, ◌<◌, ◌≤◌, List, [], ◌∷◌, ◌++◌, length, map, Option, refl, sym, ap, ap₂, ◌∙◌, subst, arith, inl, inr}
-use Rattle.std.specs.List.{All}
 use Rattle.wh_words.specs.Limits.{most_level_edges, most_relators}
 use Rattle.wh_words.specs.Tuples.{TupleData, IsTuple, tuple_length}
 use Rattle.wh_words.specs.Moves.{Move}

@@ -24,7 +24,7 @@ use Rattle.wh_fields.specs.TupleFields.{words_row, IsTupleOf}
 use Rattle.wh_data.specs.declared.command.Command.TheVariants as commands
 use Rattle.wh_data.specs.Commands.{heading_row}
 use Rattle.wh_data.specs.AnswerTexts.{side_rows, level_rows, stab_rows, verdict_row, verdict_rows, done_row, head_rows, body_rows, answer_text}
-use Rattle.wh_data.specs.AnswerData.{plains, side_of, verdict_of, parts_of, stab_verdict_of, answer_of}
+use Rattle.wh_data.specs.AnswerData.{plains, side_of, verdict_of, parts_of, answer_of}
 use Rattle.wh_data.specs.AnswerData.{AnswerData}
 use Rattle.wh_data.specs.Limits.{most_answer_bytes}
 use Rattle.wh_data.specs.AnswerData.StabVerdictData.{done}

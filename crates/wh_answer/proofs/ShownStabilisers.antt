@@ -13,10 +13,9 @@ use Rattle.wh_peak.specs.Equivalence.{AreMovesOfRank}
 use Rattle.wh_peak.specs.Relations.{IsTrivial}
 use Rattle.wh_peak.specs.Stabilisers.{LeadsToFlat}
 use Rattle.wh_stab.specs.SpanningTrees.{IsSpanningTree}
-use Rattle.wh_stab.specs.Presentations.{PresentationData, IsPresented, AreNumbers}
-use Rattle.wh_stab.specs.Presentations.AreNumbers.{done as no_numbers, on_tree, off_tree}
+use Rattle.wh_stab.specs.Presentations.{PresentationData, IsPresented}
 use Rattle.wh_stab.specs.Laws.{IsRelator}
-use Rattle.wh_stab.proofs.OwnStabilisers.{same_generators}
+use Rattle.wh_stab.proofs.OwnStabilisers.{same_generators, same_numbers}
 use Rattle.wh_stab.proofs.Words.{fix_the_tuple, automorphisms_are_words, tell_relators}
 use Rattle.wh_data.specs.declared.answer.Loop.{Loop}
 use Rattle.wh_data.specs.RootPlaces.{root_place}
@@ -42,12 +41,6 @@ walked root ts t (m ∷ ms) level there ranks steps =
     step (record { valid = steps.0; rank = rank ∙ sym (reached_rank walk.1); kept = reached_length next.1 ∙ sym (reached_length walk.1); moves = steps.1 })
     (walked root ts (act t m) ms level steps.2 (All-tail (λ (x : Move). x.rank ≡ root.rank) m ms ranks) steps.3)
 
--- The numbers of a way don't depend on the trace.
-told_numbers : (s : SideData) (p : PartsData) {t : TupleData} {ms : List Move} {ks : List ℕ} → AreNumbers (presented_by p p.generators) t ms ks → AreNumbers (told_presentation s p) t ms ks
-told_numbers s p no_numbers = no_numbers
-told_numbers s p (on_tree e d) = on_tree (record { from = e.from; to = e.to; starts = e.starts; ends = e.ends; parent = e.parent }) (told_numbers s p d)
-told_numbers s p (off_tree at gen d) = off_tree at gen (told_numbers s p d)
-
 -- ---- relators
 module _ (t : TupleData) (s : SideData) (p : PartsData) (end : s.end.rank ≡ t.rank) (is : IsPresented t s.end (told_presentation s p)) where
   relator_shown : (place : ℕ) (r : Loop) → All (λ m. m.rank ≡ s.end.rank) r.moves → AreMet (loop_asked place s.end.rank p r) → IsRelator t.rank (told_presentation s p) (told_loop r)
@@ -68,7 +61,7 @@ module _ (t : TupleData) (s : SideData) (p : PartsData) (end : s.end.rank ≡ t.
       let trivial : IsTrivial t.rank r.moves = subst (λ (k : ℕ). IsTrivial k r.moves) end (first_met place (is_identity n r) fifth after_images) in
       let there : Contains p.vertices v = Contains-get_or p.vertices r.at (record { rank = 0; words = [] }) steps.0 in
       let way : Reaches v r.moves v = subst (Reaches v r.moves) back (walked s.end p.vertices v r.moves is.level there ranks steps.1) in
-      let told = tell_relators t s.end v q r.moves r.word is ((is.level.exact v).0 there) way (told_numbers s p (first_met place (has_numbers p r) [] after_identity)) trivial in
+      let told = tell_relators t s.end v q r.moves r.word is ((is.level.exact v).0 there) way (same_numbers (presented_by p p.generators) q refl refl refl (first_met place (has_numbers p r) [] after_identity)) trivial in
       record { moves = trivial; numbers = told.0; word = told.1 }
 
   relators_shown : (place : ℕ) → All (λ r. All (λ m. m.rank ≡ s.end.rank) r.moves) p.relators → AreMet (relators_asked place s.end.rank p) → All (λ r. IsRelator t.rank (told_presentation s p) (told_loop r)) p.relators

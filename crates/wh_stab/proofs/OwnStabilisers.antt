@@ -47,7 +47,7 @@ module _ (p q : PresentationData) (vertices : p.vertices ≡ q.vertices) (tree :
     parent = ap (λ (x : Parents). slice_get x e.to) (sym tree) ∙ e.parent;
   }
 
-  same_numbers : {t : TupleData} {ms : List Move} {ks : List ℕ} → AreNumbers p t ms ks → AreNumbers q t ms ks
+  pub same_numbers : {t : TupleData} {ms : List Move} {ks : List ℕ} → AreNumbers p t ms ks → AreNumbers q t ms ks
   same_numbers done = done
   same_numbers {t} (on_tree {m = m} e d) = on_tree (same_of_tree t m e) (same_numbers d)
   same_numbers (off_tree {v = v} {k = k} at gen d) =
